@@ -1,0 +1,4 @@
+// What every refusal of the runtime tells: its number, its layer, the place, and a cause.
+pub mod level;
+pub mod refusal;
+pub mod report;

@@ -1,0 +1,4 @@
+pub mod Checked
+pub mod Cut
+pub mod Halves
+pub mod Laying

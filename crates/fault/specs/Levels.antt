@@ -13,10 +13,9 @@ rankOf Call = 1
 rankOf Read = 2
 rankOf Write = 3
 
--- the level of a number, if it is one
+-- the level of a number that grants something, 1 to 3
 abbrev pub levelNamed : ℕ → Option Level
-levelNamed n =
-    cond (eqb n 0) (Some Nothing) (cond (eqb n 1) (Some Call) (cond (eqb n 2) (Some Read) (cond (eqb n 3) (Some Write) None)))
+levelNamed n = cond (eqb n 1) (Some Call) (cond (eqb n 2) (Some Read) (cond (eqb n 3) (Some Write) None))
 
 -- the greater of two levels
 abbrev pub higherOf : Level → Level → Level

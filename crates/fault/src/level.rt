@@ -23,12 +23,11 @@ impl Level {
         }
     }
 
-    // The level of a number.
+    // The level of a number that grants something, 1 to 3.
     pub fn named(number: u32) -> Option<Level>
         ensures { λ r. ⌜ r ≡ levelNamed number ⌝ }
     {
         match number {
-            0 => Some(Level::Nothing),
             1 => Some(Level::Call),
             2 => Some(Level::Read),
             3 => Some(Level::Write),

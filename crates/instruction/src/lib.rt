@@ -1,0 +1,4 @@
+// Records of eight bytes, decoded into instructions with their fields checked.
+pub mod decode;
+pub mod form;
+pub mod op;

@@ -1,0 +1,9 @@
+pub mod Fines
+pub mod InUse
+pub mod Ladders
+pub mod Lending
+pub mod Lowest
+pub mod Machines
+pub mod Passing
+pub mod Sounds
+pub mod Within

@@ -1,0 +1,7 @@
+pub mod Answered
+pub mod Each
+pub mod Finding
+pub mod Plans
+pub mod Printed
+pub mod Table
+pub mod Whole

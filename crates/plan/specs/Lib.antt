@@ -1,0 +1,5 @@
+pub mod Chart
+pub mod Drafting
+pub mod First
+pub mod Model
+pub mod Tables

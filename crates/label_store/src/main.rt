@@ -1,7 +1,5 @@
 // Stores a label in a joint memory over two areas of the host, reads it back, and shows a refusal.
-use fault::refusal::LayerDebug;
-use fault::report::Cause;
-use fault::report::Fault;
+use fault::display::FaultDisplay;
 use memory::Memory;
 use memory::block::store;
 use memory::flat::Flat;
@@ -26,23 +24,6 @@ fn show<M: Memory>(rt: &LibcRuntime, memory: &M) -> Result<(), AnyError> {
     Ok(())
 }
 
-fn tell(rt: &LibcRuntime, fault: Fault) -> Result<(), AnyError> {
-    let number = fault.refusal.number();
-    let layer = fault.layer;
-    match fault.cause {
-        Cause::Memory(outside) => {
-            let address = outside.address;
-            let size = outside.size;
-            println!(
-                rt,
-                "refused with {number}, layer {layer:?}, address {address}, size {size}"
-            )?;
-        }
-        _ => println!(rt, "refused with {number}, layer {layer:?}")?,
-    }
-    Ok(())
-}
-
 fn run(rt: &LibcRuntime) -> Result<(), AnyError> {
     let mut first = [0u8; 16];
     let mut second = [0u8; 24];
@@ -51,12 +32,12 @@ fn run(rt: &LibcRuntime) -> Result<(), AnyError> {
     println!(rt, "label memory of {size} bytes: 16 flat, 12 in halves")?;
     match store(&mut label, 4, b"ROLL 7: 80 x 40 mm") {
         Ok(()) => println!(rt, "stored 18 bytes at 4")?,
-        Err(fault) => tell(rt, fault)?,
+        Err(fault) => println!(rt, "{fault}")?,
     }
     show(rt, &label)?;
     match label.write(28, 33) {
         Ok(()) => println!(rt, "stored a byte at 28")?,
-        Err(fault) => tell(rt, fault)?,
+        Err(fault) => println!(rt, "{fault}")?,
     }
     let (flat, halves) = label.into_parts();
     show(rt, &flat)?;

@@ -44,7 +44,7 @@ fine-rise ks js r (Counted g k n) e =
     let q = and-parts (leb n (readingOf ks k)) _ (p .1) in
     and-from (formed g) _ (p .0) (and-from (leb n (readingOf js k)) _ (le-leb n (readingOf js k) (omega (arith, leb-true n (readingOf ks k) (q .0), r k))) (q .1))
 
-rises : (ks : List Counter) (k : ℕ) (x : Counter) → readingOf ks k ≤ x .reading → (j : ℕ) → readingOf ks j ≤ readingOf (set ks k x) j
+pub rises : (ks : List Counter) (k : ℕ) (x : Counter) → readingOf ks k ≤ x .reading → (j : ℕ) → readingOf ks j ≤ readingOf (set ks k x) j
 rises ks k x l j = each-set (λ i (y : Counter). readingOf ks i ≤ y .reading) fresh ks k x (λ i. omega arith) l j
 
 pub fine-kept : (ks : List Counter) (k : ℕ) (x : Counter) → readingOf ks k ≤ x .reading → (h : Holding) → fine ks h ≡ true → fine (set ks k x) h ≡ true

@@ -9,17 +9,10 @@ use lib.ListN.{length, getD}
 use Rattle.fault.specs.Levels.{rankOf}
 use Rattle.fault.specs.declared.level.Level.{Level}
 use Rattle.fault.specs.declared.level.Level.the-variants.{Nothing, Call, Read, Write}
-use Rattle.plan.specs.Chart.{answerOf, decision, questionNumber}
+use Rattle.plan.specs.Chart.{answerOf, charted, decision, levelNo, questionNo, questionNumber}
 use Rattle.plan.specs.declared.chart.Question.{Question}
 use Rattle.plan.specs.declared.chart.Question.the-variants.{Load, Store, Fetch, Keep, Door, Elsewhere}
 use Rattle.plan.proofs.Table.{every, at}
-
--- levels and questions by their numbers
-abbrev levelNo : ℕ → Level
-levelNo n = getD (Nothing ∷ Call ∷ Read ∷ Write ∷ []) n Nothing
-
-abbrev questionNo : ℕ → Question
-questionNo n = getD (Load ∷ Store ∷ Fetch ∷ Keep ∷ Door ∷ Elsewhere ∷ []) n Load
 
 level-back : (l : Level) → levelNo (rankOf l) ≡ l
 level-back Nothing = refl
@@ -53,7 +46,7 @@ abbrev said : ℕ → ℕ → ℕ → ℕ
 said b l q = answerOf (decision b (levelNo l) (questionNo q))
 
 abbrev pub right : ℕ → ℕ → Bool
-right k x = eqb x (said (k / 24) (k / 6 % 4) (k % 6))
+right k x = eqb x (charted k)
 
 by-number : (xs : List ℕ) → T (every right 0 xs) → length xs ≡ 768 → (b l q : ℕ) → b < 32 → l < 4 → q < 6 → getD xs (24 * b + 6 * l + q) 0 ≡ said b l q
 by-number xs t n b l q hb hl hq =

@@ -1,10 +1,13 @@
 -- The rule of the chart. Assumes nothing.
 use mathlib.Core.Bool.{Bool, true, false, not, cond}
+use mathlib.Core.List.{[], _∷_}
 use Prim.Native.Nat.{ℕ, _/_, _%_}
 use lib.Dec.{eqb, leb}
+use lib.ListN.{getD}
 use Rattle.fault.specs.Levels.{rankOf}
 use Rattle.fault.specs.Refusals.{numberOf}
 use Rattle.fault.specs.declared.level.Level.{Level}
+use Rattle.fault.specs.declared.level.Level.the-variants.{Nothing, Call, Read, Write}
 use Rattle.fault.specs.declared.refusal.Refusal.{Refusal}
 use Rattle.fault.specs.declared.refusal.Refusal.the-variants.{WrongPageKind, MissingBit, LevelTooLow, NotADoor}
 use Rattle.plan.specs.declared.chart.Question.{Question}
@@ -49,3 +52,14 @@ answerOf (Some r) = numberOf r
 abbrev pub refusalOf : ℕ → Option Refusal
 refusalOf n =
     cond (eqb n 8) (Some WrongPageKind) (cond (eqb n 9) (Some MissingBit) (cond (eqb n 10) (Some LevelTooLow) (cond (eqb n 11) (Some NotADoor) None)))
+
+-- levels and questions by their numbers
+abbrev pub levelNo : ℕ → Level
+levelNo n = getD (Nothing ∷ Call ∷ Read ∷ Write ∷ []) n Nothing
+
+abbrev pub questionNo : ℕ → Question
+questionNo n = getD (Load ∷ Store ∷ Fetch ∷ Keep ∷ Door ∷ Elsewhere ∷ []) n Load
+
+-- entry k of the chart
+abbrev pub charted : ℕ → ℕ
+charted k = answerOf (decision (k / 24) (levelNo (k / 6 % 4)) (questionNo (k % 6)))

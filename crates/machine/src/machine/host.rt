@@ -1,7 +1,11 @@
 ghost use mathlib.Core.Path.{_≡_};
+ghost use Prim.Native.Nat.{_+_};
+ghost use Rattle.capability.specs.Holdings.{readingOf};
 ghost use Rattle.machine.specs.Actions.{said, stepped};
 ghost use Rattle.machine.specs.Host.{counterAt, depositRule, kindCheck, lendAnswer, lendCheck, lendCore, lent, recallRule};
 ghost use Rattle.machine.specs.Model.{coreOf, model, planOf};
+ghost use Rattle.machine.specs.Runs.{Dead};
+ghost use Rattle.machine.specs.Telling.{Refuses};
 ghost use Rattle.std.specs.declared.result.Result.the-variants.{Ok};
 use super::Machine;
 use crate::answer::Done;
@@ -21,6 +25,14 @@ use memory::Memory;
 impl<M: Memory> Machine<M> {
     // The host writes one byte.
     pub fn deposit(&mut self, address: usize, byte: u8) -> Result<Done, Fault>
+        ensures after { λ _. ⌜ model bytes (now (self .exit)) ≡ stepped (model bytes (now (self .entry))) (depositRule (planOf (now (self .entry))) (coreOf (now (self .entry))) address byte) ⌝ }
+        ensures answer { λ r. ⌜ r ≡ said (model bytes (now (self .entry))) (depositRule (planOf (now (self .entry))) (coreOf (now (self .entry))) address byte) ⌝ }
+        ensures refuses { λ r. ⌜ Refuses (model bytes (now (self .entry))) (model bytes (now (self .exit))) r ⌝ }
+    {
+        self.write_within(address, byte)
+    }
+
+    fn write_within(&mut self, address: usize, byte: u8) -> Result<Done, Fault>
         ensures after { λ _. ⌜ model bytes (now (self .exit)) ≡ stepped (model bytes (now (self .entry))) (depositRule (planOf (now (self .entry))) (coreOf (now (self .entry))) address byte) ⌝ }
         ensures answer { λ r. ⌜ r ≡ said (model bytes (now (self .entry))) (depositRule (planOf (now (self .entry))) (coreOf (now (self .entry))) address byte) ⌝ }
     {
@@ -109,11 +121,21 @@ impl<M: Memory> Machine<M> {
     }
 
     // The host takes a loan back: 1 if the slip's counter is out at its reading, else 0 and nothing changes.
+    // What was lent on the slip, and every copy of it, then grants nothing, whatever happens next.
     pub fn recall(&mut self, slip: Slip) -> Done
         ensures after { λ _. ⌜ model bytes (now (self .exit)) ≡ stepped (model bytes (now (self .entry))) (recallRule (coreOf (now (self .entry))) (slip .counter) (slip .reading)) ⌝ }
         ensures answer { λ r. ⌜ Ok r ≡ said (model bytes (now (self .entry))) (recallRule (coreOf (now (self .entry))) (slip .counter) (slip .reading)) ⌝ }
+        ensures dead { λ r. ⌜ (r .value ≡ 1 → Dead (model bytes (now (self .exit))) (slip .counter) (slip .reading)) ⌝ }
     {
         let Slip { counter, reading } = slip;
+        self.take_back(counter, reading)
+    }
+
+    fn take_back(&mut self, counter: u8, reading: u32) -> Done
+        ensures after { λ _. ⌜ model bytes (now (self .exit)) ≡ stepped (model bytes (now (self .entry))) (recallRule (coreOf (now (self .entry))) counter reading) ⌝ }
+        ensures answer { λ r. ⌜ Ok r ≡ said (model bytes (now (self .entry))) (recallRule (coreOf (now (self .entry))) counter reading) ⌝ }
+        ensures past { λ r. ⌜ (r .value ≡ 1 → readingOf (coreOf (now (self .exit)) .counters) counter ≡ reading + 1) ⌝ }
+    {
         let place = self.engine.place;
         if counter < 1 || counter > 16 {
             return Done { place, value: 0 };

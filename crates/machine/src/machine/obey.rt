@@ -7,6 +7,7 @@ ghost use Rattle.machine.specs.Actions.{said, stepped};
 ghost use Rattle.machine.specs.Model.{coreOf, model, planOf};
 ghost use Rattle.machine.specs.Rules.{leaves, obeyDecoded, obeyRule, rightOf, row, wanted};
 ghost use Rattle.machine.specs.State.{placeOf, value};
+ghost use Rattle.machine.specs.Telling.{Refuses};
 ghost use Rattle.std.specs.declared.result.Result.the-variants.{Ok};
 use super::Machine;
 use crate::answer::Done;
@@ -20,8 +21,16 @@ use instruction::op::Op;
 use memory::Memory;
 
 impl<M: Memory> Machine<M> {
-    // Obeys one record, which may be any bytes.
+    // Obeys one record, which may be any bytes. A refusal leaves everything as it was, and its fault tells the truth.
     pub fn obey(&mut self, word: &[u8]) -> Result<Done, Fault>
+        ensures after { λ _. ⌜ model bytes (now (self .exit)) ≡ stepped (model bytes (now (self .entry))) (obeyRule (planOf (now (self .entry))) (coreOf (now (self .entry))) (now (word .entry))) ⌝ }
+        ensures answer { λ r. ⌜ r ≡ said (model bytes (now (self .entry))) (obeyRule (planOf (now (self .entry))) (coreOf (now (self .entry))) (now (word .entry))) ⌝ }
+        ensures refuses { λ r. ⌜ Refuses (model bytes (now (self .entry))) (model bytes (now (self .exit))) r ⌝ }
+    {
+        self.decode_and_follow(word)
+    }
+
+    fn decode_and_follow(&mut self, word: &[u8]) -> Result<Done, Fault>
         ensures after { λ _. ⌜ model bytes (now (self .exit)) ≡ stepped (model bytes (now (self .entry))) (obeyRule (planOf (now (self .entry))) (coreOf (now (self .entry))) (now (word .entry))) ⌝ }
         ensures answer { λ r. ⌜ r ≡ said (model bytes (now (self .entry))) (obeyRule (planOf (now (self .entry))) (coreOf (now (self .entry))) (now (word .entry))) ⌝ }
     {

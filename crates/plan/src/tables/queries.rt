@@ -1,4 +1,9 @@
+ghost use mathlib.Core.Bool.{true};
 ghost use mathlib.Core.Path.{_≡_};
+ghost use Prim.Native.Nat.{ℕ, _/_, _<_};
+ghost use Rattle.plan.specs.Chart.{hasBit};
+ghost use Rattle.std.specs.Options.{Cases, isSome};
+ghost use Rattle.std.specs.declared.option.Option.the-variants.{Some};
 ghost use Rattle.plan.specs.Model.{planned};
 ghost use Rattle.plan.specs.Tables.{decides, entryAt, levelFor, ownerOf, pageAt, slotAt};
 use super::Plan;
@@ -73,9 +78,11 @@ impl Plan {
         decide(self.page_at(address).bits, level, question)
     }
 
-    // The slot of an address, counted over all S pages.
+    // The slot of an address, counted over all S pages. Every S page has eight of its own.
     pub fn slot_at(&self, address: usize) -> Option<usize>
-        ensures { λ r. ⌜ r ≡ slotAt (planned (now (self .entry))) address ⌝ }
+        ensures value { λ r. ⌜ r ≡ slotAt (planned (now (self .entry))) address ⌝ }
+        ensures there { λ r. ⌜ (hasBit 16 (pageAt (planned (now (self .entry))) address .bits) ≡ true → isSome r ≡ true) ⌝ }
+        ensures own { λ r. ⌜ Cases r (Unit {0}) (λ i. (i < 64) × ((b : ℕ) → slotAt (planned (now (self .entry))) b ≡ Some i → b / 32 ≡ address / 32)) ⌝ }
     {
         match find(&self.stores, address / 256) {
             Some(i) => Some(8 * i + address % 256 / 32),

@@ -28,11 +28,11 @@ impl Registers {
     pub fn get(&self, at: u8) -> Holding
         ensures { λ r. ⌜ r ≡ getD (now (self .entry) .held) at empty ⌝ }
     {
-        if at < 8 {
-            self.held[at as usize]
-        } else {
-            Holding::Empty
+        if at >= 8 {
+            return Holding::Empty;
         }
+        let index = at as usize;
+        self.held[index]
     }
 
     // Something happens to one register, and to no other.

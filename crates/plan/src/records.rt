@@ -12,13 +12,6 @@ pub struct Page {
 }
 
 impl Page {
-    // Code may run here.
-    pub fn executable(self) -> bool
-        ensures { λ r. ⌜ r ≡ hasBit 4 (self .bits) ⌝ }
-    {
-        self.bits / 4 % 2 == 1
-    }
-
     // Code here may use the panel.
     pub fn privileged(self) -> bool
         ensures { λ r. ⌜ r ≡ hasBit 8 (self .bits) ⌝ }

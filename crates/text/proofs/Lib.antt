@@ -1,0 +1,14 @@
+pub mod Accepting
+pub mod Contrary
+pub mod Cutting
+pub mod Drafts
+pub mod Exactly
+pub mod Filling
+pub mod MemoryText
+pub mod Numbering
+pub mod Once
+pub mod Parting
+pub mod Pieces
+pub mod Refusing
+pub mod RowText
+pub mod Staying

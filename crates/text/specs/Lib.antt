@@ -1,0 +1,9 @@
+pub mod Laws
+pub mod Model
+pub mod Numbers
+pub mod Reading
+pub mod Sections
+pub mod Sheets
+pub mod Splitting
+pub mod Tokens
+pub mod Writing

@@ -1,0 +1,4 @@
+// From the text of a plan and a trace to what is printed of it.
+mod printing;
+pub mod program;
+mod trace;

@@ -1,3 +1,4 @@
+pub mod Bounds
 pub mod Fines
 pub mod InUse
 pub mod Ladders
@@ -9,4 +10,3 @@ pub mod Machines
 pub mod Passing
 pub mod Sounds
 pub mod Within
-pub mod Worked

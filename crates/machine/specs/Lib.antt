@@ -2,7 +2,6 @@ pub mod Actions
 pub mod Checks
 pub mod Engines
 pub mod Host
-pub mod Marked
 pub mod Model
 pub mod Rules
 pub mod Runs

@@ -91,7 +91,7 @@ abbrev pub natural : ℤ → Option ℕ
 natural (pos n) = Some n
 natural (negsuc n) = None
 
-abbrev pub target : ℕ → ℕ → Option ℕ
+unfoldable pub target : ℕ → ℕ → Option ℕ
 target place v = natural (pos place +ℤ (pos 4 *ℤ toZ w32 v))
 
 abbrev pub landing : Planned → Core → Option ℕ → Action

@@ -1,6 +1,6 @@
 ghost use mathlib.Core.Path.{_≡_};
 ghost use Rattle.machine.specs.Model.{coreOf, model, planOf};
-ghost use Rattle.machine.specs.State.{placeOf, started};
+ghost use Rattle.machine.specs.State.{started};
 ghost use Rattle.plan.specs.Model.{drafted};
 use super::Machine;
 use crate::engine::Engine;
@@ -40,13 +40,6 @@ impl<M: Memory> Machine<M> {
             memory,
         } = self;
         memory
-    }
-
-    // The place, at which the next record is obeyed.
-    pub fn place(&self) -> usize
-        ensures { λ r. ⌜ r ≡ placeOf (coreOf (now (self .entry))) ⌝ }
-    {
-        self.engine.place
     }
 
     // The number that the panel shows.

@@ -1,10 +1,10 @@
 use mathlib.Core.Path.{_≡_, sym, ap, _∙_}
-use native.Mathlib.Omega.{arith}
 use lib.ListN.{length-set, set}
 use borrow.Author.Needs.{needs}
 use Rattle.std.proofs.shelf.Lists.{set-past}
 use Rattle.machine.specs.Model.{coreOf, planOf}
 use Rattle.machine.specs.State.{slotted}
+use Rattle.machine.proofs.Bounds.{past}
 use Rattle.machine.proofs.Machines.{facts, sound-of}
 use Rattle.machine.proofs.Sounds.{sound-slotted}
 use Rattle.machine.proofs.machine.Machine.put_slot.Needs as need
@@ -19,5 +19,5 @@ ghost-self g c =
 pub returns-else-slot-lt64 : need.returns-else-slot-lt64
 returns-else-slot-lt64 g c =
     let m = c .args .self .now in
-    let e : set (m .slots) (c .args .slot) (c .args .held) ≡ m .slots = set-past (m .slots) (c .args .slot) (c .args .held) (omega arith) in
+    let e : set (m .slots) (c .args .slot) (c .args .held) ≡ m .slots = set-past (m .slots) (c .args .slot) (c .args .held) (past _ 64 (c .args .slot) (m .slots64) (c .if-slot-lt64 .left)) in
     search needs

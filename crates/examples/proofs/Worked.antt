@@ -14,11 +14,11 @@ use Rattle.fault.specs.Levels.{higherOf, rankOf}
 use Rattle.fault.specs.declared.level.Level.{Level}
 use Rattle.fault.specs.declared.level.Level.the-variants.{Nothing, Call, Read, Write}
 use Rattle.fault.specs.declared.refusal.Refusal.the-variants.{AddressRange, CounterSpent, NotOwner}
 use Rattle.machine.specs.Actions.{Action, check, go, refuse}
 use Rattle.machine.specs.Checks.{Check, accessAt, demand, entrance, judged, judgement, levelAt, ownedBy, unspent}
-use Rattle.machine.specs.Marked.{Marked}
+use Rattle.examples.specs.Marked.{Marked}
 use Rattle.machine.specs.Rules.{branchRule, jumpRule, landing, raisedCounter, revokeRule, target}
 use Rattle.machine.specs.State.{Core, counted, moved, on, placeOf, tagNow, value}
 use Rattle.plan.specs.Chart.{entryOf, hasBit}
 use Rattle.plan.specs.Tables.{Planned, StartsFirst, decides, entryAt, levelFor, ownerOf, pageAt, tagAt}
 use Rattle.plan.specs.declared.records.Page.{Page}
@@ -62,10 +62,12 @@ zero-open p c f e =
     ap (judged c (accessAt p 0 l)) (entry-open (hasBit 4 (pageAt p 0 .bits)) l (ap (hasBit 4) (f .1)) up)
 
 back : (p : Planned) (c : Core) (a : ℕ) → StartsFirst (p .pages) → placeOf c ≡ 8 → value c a ≡ 0 → branchRule p c a 4294967294 ≡ go (moved 0 c) 0
+unfolding target
 back p c a f e z =
     taken p c a 4294967294 z ∙ ap (λ n. landing p c (target n 4294967294)) e ∙ ap (λ k. check k (go (moved 0 c) 0)) (zero-open p c f e)
 
 below : (p : Planned) (c : Core) (a : ℕ) → placeOf c ≡ 8 → value c a ≡ 0 → branchRule p c a 4294967293 ≡ refuse (bareFault AddressRange 8)
+unfolding target
 below p c a e z =
     taken p c a 4294967293 z ∙ ap (λ n. landing p c (target n 4294967293)) e ∙ ap (λ n. refuse (bareFault AddressRange n)) e
 

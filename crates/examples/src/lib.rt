@@ -1,5 +1,5 @@
 ghost use mathlib.Core.Path.{_≡_};
-ghost use Rattle.machine.specs.Marked.{Marked};
+ghost use Rattle.examples.specs.Marked.{Marked};
 
 // How many worked examples of the rules are proved with this function.
 pub fn marked_examples() -> u8

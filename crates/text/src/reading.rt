@@ -117,6 +117,32 @@ mod tests {
         check_eq(refused(rt.alloc(), text)?, Some((Refusal::DraftNumber, 5)))
     }
 
+    // The draft's other refusals, each at the line of its row.
+    #[test]
+    fn tells_a_wrong_tag(rt: LibcRuntime) -> Result<(), Fail> {
+        let text = b"memory size\nF 9\n\npage tag bits\n1 64 3\n";
+        check_eq(refused(rt.alloc(), text)?, Some((Refusal::DraftTag, 5)))
+    }
+
+    #[test]
+    fn tells_wrong_bits(rt: LibcRuntime) -> Result<(), Fail> {
+        let text = b"memory size\nF 9\n\npage tag bits\n1 1 20\n";
+        check_eq(refused(rt.alloc(), text)?, Some((Refusal::DraftBits, 5)))
+    }
+
+    #[test]
+    fn tells_a_repeat(rt: LibcRuntime) -> Result<(), Fail> {
+        let text = b"memory size\nF 9\n\npage tag bits\n1 1 3\n1 2 3\n";
+        check_eq(refused(rt.alloc(), text)?, Some((Refusal::DraftRepeat, 6)))
+    }
+
+    #[test]
+    fn tells_a_ninth_store(rt: LibcRuntime) -> Result<(), Fail> {
+        let text =
+            b"memory size\nF 9\n\npage tag bits\n1 1 19\n2 1 19\n3 1 19\n4 1 19\n5 1 19\n6 1 19\n7 1 19\n8 1 19\n9 1 19\n";
+        check_eq(refused(rt.alloc(), text)?, Some((Refusal::DraftFull, 13)))
+    }
+
     #[test]
     fn tells_an_open_line(rt: LibcRuntime) -> Result<(), Fail> {
         let text = b"memory size\nF 9\n\npage tag bits";

@@ -1,4 +1,6 @@
-// Capabilities: what one grants, how long it lives, and the registers that hold them.
+//! Capabilities: what one grants, how long it lives, and the registers that hold them.
+#![tactic(auto)]
+
 pub mod counter;
 pub mod holding;
 pub mod registers;

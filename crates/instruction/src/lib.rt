@@ -1,4 +1,6 @@
-// Records of eight bytes, decoded into instructions with their fields checked.
+//! Records of eight bytes, decoded into instructions with their fields checked.
+#![tactic(auto)]
+
 pub mod decode;
 pub mod form;
 pub mod op;

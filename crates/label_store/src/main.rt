@@ -1,4 +1,6 @@
-// Stores a label in a joint memory over two areas of the host, reads it back, and shows a refusal.
+//! Stores a label in a joint memory over two areas of the host, reads it back, and shows a refusal.
+#![tactic(auto)]
+
 use memory::Memory;
 use memory::block::store;
 use memory::flat::Flat;

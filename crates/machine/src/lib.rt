@@ -1,4 +1,6 @@
-// The machine: its state, the seventeen instructions, and the host's calls.
+//! The machine: its state, the seventeen instructions, and the host's calls.
+#![tactic(auto)]
+
 pub mod answer;
 pub mod engine;
 pub mod frame;

@@ -11,9 +11,9 @@ pub trait Keyed {
 
 // The first place of a record that is kept under the key.
 pub fn find<T: Keyed>(records: &[T], key: usize) -> Option<usize>
-    ensures value { result ≡ first_where (λ x. under x key) records.now }
+    ensures value { result ≡ first_where (λ x. T.under x key) records.now }
     ensures within { IfSome result (λ i. i < length records.now) }
-    ensures holds { IfSome result (λ i. (d : T) → under (slice_index_or records.now i d) key ≡ true) }
+    ensures holds { IfSome result (λ i. (d : T) → T.under (slice_index_or records.now i d) key ≡ true) }
 {
     for (i, record) in records.iter().enumerate() {
         if record.is_under(key) {

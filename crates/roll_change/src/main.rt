@@ -1,5 +1,7 @@
-// The roll change: the driver's sensor cell is lent to a script, the script reads it, the loan is recalled, and the
-// script's next read is refused.
+//! The roll change: the driver's sensor cell is lent to a script, the script reads it, the loan is recalled, and the
+//! script's next read is refused.
+#![tactic(auto)]
+
 use fault::report::Fault;
 use machine::answer::Done;
 use machine::machine::Machine;

@@ -1,5 +1,7 @@
-// Two tags without the host: a script calls a driver at its door, the driver makes a capability on its own counter and
-// hands it over, the script reads through it, and the driver revokes it.
+//! Two tags without the host: a script calls a driver at its door, the driver makes a capability on its own counter and
+//! hands it over, the script reads through it, and the driver revokes it.
+#![tactic(auto)]
+
 use fault::report::Fault;
 use machine::machine::Machine;
 use memory::Memory;

@@ -1,4 +1,6 @@
-// The program's text: reads it into a plan, a memory's size and a trace, or refuses it at a line.
+//! The program's text: reads it into a plan, a memory's size and a trace, or refuses it at a line.
+#![tactic(auto)]
+
 pub mod job;
 pub mod lexer;
 pub mod number;

@@ -1,5 +1,7 @@
-// Runs the texts of an independent implementation and compares what is printed. The map's totals are not printed yet, so
-// an accepted text is compared up to them.
+//! Runs the texts of an independent implementation and compares what is printed. The map's totals are not printed yet, so
+//! an accepted text is compared up to them.
+#![tactic(auto)]
+
 use std::{env, fs};
 use transcript::program::run;
 

@@ -1,4 +1,6 @@
-// Reads a plan and a trace from standard input and prints the answers. Nothing else is done here.
+//! Reads a plan and a trace from standard input and prints the answers. Nothing else is done here.
+#![tactic(auto)]
+
 use std::io::Read;
 use transcript::program::run;
 

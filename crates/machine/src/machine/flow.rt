@@ -13,8 +13,8 @@ use memory::Memory;
 impl<M: Memory> Machine<M> {
     // JUMP
     pub(crate) fn jump(&mut self, to: usize) -> Result<Done, Fault>
-        ensures after { model bytes self.new ≡ stepped (model bytes self.old) (jump_rule (plan_of self.old) (core_of self.old) to) }
-        ensures answer { result ≡ said (model bytes self.old) (jump_rule (plan_of self.old) (core_of self.old) to) }
+        ensures after { model M.bytes self.new ≡ stepped (model M.bytes self.old) (jump_rule (plan_of self.old) (core_of self.old) to) }
+        ensures answer { result ≡ said (model M.bytes self.old) (jump_rule (plan_of self.old) (core_of self.old) to) }
     {
         self.entrance(to)?;
         self.engine.move_to(to);
@@ -27,8 +27,8 @@ impl<M: Memory> Machine<M> {
     // CALL
     pub(crate) fn call(&mut self, to: usize) -> Result<Done, Fault>
         requires room { place_of (core_of self.old) % 256 ≢ 252 }
-        ensures after { model bytes self.new ≡ stepped (model bytes self.old) (call_rule (plan_of self.old) (core_of self.old) to) }
-        ensures answer { result ≡ said (model bytes self.old) (call_rule (plan_of self.old) (core_of self.old) to) }
+        ensures after { model M.bytes self.new ≡ stepped (model M.bytes self.old) (call_rule (plan_of self.old) (core_of self.old) to) }
+        ensures answer { result ≡ said (model M.bytes self.old) (call_rule (plan_of self.old) (core_of self.old) to) }
     {
         self.entrance(to)?;
         self.demand(Refusal::StackFull, self.engine.depth < 32)?;
@@ -41,8 +41,8 @@ impl<M: Memory> Machine<M> {
 
     // RETURN
     pub(crate) fn leave(&mut self) -> Result<Done, Fault>
-        ensures after { model bytes self.new ≡ stepped (model bytes self.old) (return_rule (core_of self.old)) }
-        ensures answer { result ≡ said (model bytes self.old) (return_rule (core_of self.old)) }
+        ensures after { model M.bytes self.new ≡ stepped (model M.bytes self.old) (return_rule (core_of self.old)) }
+        ensures answer { result ≡ said (model M.bytes self.old) (return_rule (core_of self.old)) }
     {
         self.demand(Refusal::StackEmpty, 0 < self.engine.depth)?;
         self.engine.leave();
@@ -55,8 +55,8 @@ impl<M: Memory> Machine<M> {
     // BRANCH
     pub(crate) fn branch(&mut self, a: u8, v: u32) -> Result<Done, Fault>
         requires room { (value (core_of self.old) a == 0) ≡ false → place_of (core_of self.old) % 256 ≢ 252 }
-        ensures after { model bytes self.new ≡ stepped (model bytes self.old) (branch_rule (plan_of self.old) (core_of self.old) a v) }
-        ensures answer { result ≡ said (model bytes self.old) (branch_rule (plan_of self.old) (core_of self.old) a v) }
+        ensures after { model M.bytes self.new ≡ stepped (model M.bytes self.old) (branch_rule (plan_of self.old) (core_of self.old) a v) }
+        ensures answer { result ≡ said (model M.bytes self.old) (branch_rule (plan_of self.old) (core_of self.old) a v) }
     {
         if self.engine.value(a) != 0 {
             return self.go_on(0);

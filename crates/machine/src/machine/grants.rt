@@ -41,8 +41,8 @@ impl<M: Memory> Machine<M> {
         requires room { place_of (core_of self.old) % 256 ≢ 252 }
         requires granting { 0 < rank_of right.level }
         requires lives { life ≤ 16 }
-        ensures after { model bytes self.new ≡ stepped (model bytes self.old) (make_rule (plan_of self.old) (core_of self.old) a right life) }
-        ensures answer { result ≡ said (model bytes self.old) (make_rule (plan_of self.old) (core_of self.old) a right life) }
+        ensures after { model M.bytes self.new ≡ stepped (model M.bytes self.old) (make_rule (plan_of self.old) (core_of self.old) a right life) }
+        ensures answer { result ≡ said (model M.bytes self.old) (make_rule (plan_of self.old) (core_of self.old) a right life) }
     {
         self.make_check(right, life)?;
         let made = self.made(right, life);
@@ -133,8 +133,8 @@ impl<M: Memory> Machine<M> {
     pub(crate) fn cut(&mut self, a: u8, right: Right, source: u8) -> Result<Done, Fault>
         requires room { place_of (core_of self.old) % 256 ≢ 252 }
         requires granting { 0 < rank_of right.level }
-        ensures after { model bytes self.new ≡ stepped (model bytes self.old) (cut_rule (plan_of self.old) (core_of self.old) a right source) }
-        ensures answer { result ≡ said (model bytes self.old) (cut_rule (plan_of self.old) (core_of self.old) a right source) }
+        ensures after { model M.bytes self.new ≡ stepped (model M.bytes self.old) (cut_rule (plan_of self.old) (core_of self.old) a right source) }
+        ensures answer { result ≡ said (model M.bytes self.old) (cut_rule (plan_of self.old) (core_of self.old) a right source) }
     {
         let held = self.engine.registers.get(source);
         let Some(whole) = held.granted(&self.counters) else {
@@ -166,8 +166,8 @@ impl<M: Memory> Machine<M> {
     pub(crate) fn revoke(&mut self, counter: u8) -> Result<Done, Fault>
         requires room { place_of (core_of self.old) % 256 ≢ 252 }
         requires counter { counter ≤ 16 }
-        ensures after { model bytes self.new ≡ stepped (model bytes self.old) (revoke_rule (plan_of self.old) (core_of self.old) counter) }
-        ensures answer { result ≡ said (model bytes self.old) (revoke_rule (plan_of self.old) (core_of self.old) counter) }
+        ensures after { model M.bytes self.new ≡ stepped (model M.bytes self.old) (revoke_rule (plan_of self.old) (core_of self.old) counter) }
+        ensures answer { result ≡ said (model M.bytes self.old) (revoke_rule (plan_of self.old) (core_of self.old) counter) }
     {
         self.demand(Refusal::NotOwner, self.plan.owner(counter) == self.tag())?;
         let old = self.counters[counter as usize];

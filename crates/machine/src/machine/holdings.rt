@@ -28,8 +28,8 @@ impl<M: Memory> Machine<M> {
     // DROP
     pub(crate) fn empty(&mut self, a: u8) -> Result<Done, Fault>
         requires room { place_of (core_of self.old) % 256 ≢ 252 }
-        ensures after { model bytes self.new ≡ stepped (model bytes self.old) (drop_rule (core_of self.old) a) }
-        ensures answer { result ≡ said (model bytes self.old) (drop_rule (core_of self.old) a) }
+        ensures after { model M.bytes self.new ≡ stepped (model M.bytes self.old) (drop_rule (core_of self.old) a) }
+        ensures answer { result ≡ said (model M.bytes self.old) (drop_rule (core_of self.old) a) }
     {
         self.engine.tell(a, Event::Dropped);
         self.go_on(0)
@@ -38,8 +38,8 @@ impl<M: Memory> Machine<M> {
     // PUSH
     pub(crate) fn push(&mut self, a: u8) -> Result<Done, Fault>
         requires room { place_of (core_of self.old) % 256 ≢ 252 }
-        ensures after { model bytes self.new ≡ stepped (model bytes self.old) (push_rule (core_of self.old) a) }
-        ensures answer { result ≡ said (model bytes self.old) (push_rule (core_of self.old) a) }
+        ensures after { model M.bytes self.new ≡ stepped (model M.bytes self.old) (push_rule (core_of self.old) a) }
+        ensures answer { result ≡ said (model M.bytes self.old) (push_rule (core_of self.old) a) }
     {
         self.demand(Refusal::StackFull, self.engine.height < 64)?;
         let held = self.engine.registers.get(a);
@@ -50,8 +50,8 @@ impl<M: Memory> Machine<M> {
     // POP
     pub(crate) fn pop(&mut self, a: u8) -> Result<Done, Fault>
         requires room { place_of (core_of self.old) % 256 ≢ 252 }
-        ensures after { model bytes self.new ≡ stepped (model bytes self.old) (pop_rule (core_of self.old) a) }
-        ensures answer { result ≡ said (model bytes self.old) (pop_rule (core_of self.old) a) }
+        ensures after { model M.bytes self.new ≡ stepped (model M.bytes self.old) (pop_rule (core_of self.old) a) }
+        ensures answer { result ≡ said (model M.bytes self.old) (pop_rule (core_of self.old) a) }
     {
         self.demand(Refusal::StackEmpty, self.engine.floor < self.engine.height)?;
         let top = self.engine.pop();
@@ -62,8 +62,8 @@ impl<M: Memory> Machine<M> {
     // KEEP
     pub(crate) fn keep(&mut self, a: u8, at: usize) -> Result<Done, Fault>
         requires room { place_of (core_of self.old) % 256 ≢ 252 }
-        ensures after { model bytes self.new ≡ stepped (model bytes self.old) (keep_rule (plan_of self.old) (core_of self.old) a at) }
-        ensures answer { result ≡ said (model bytes self.old) (keep_rule (plan_of self.old) (core_of self.old) a at) }
+        ensures after { model M.bytes self.new ≡ stepped (model M.bytes self.old) (keep_rule (plan_of self.old) (core_of self.old) a at) }
+        ensures answer { result ≡ said (model M.bytes self.old) (keep_rule (plan_of self.old) (core_of self.old) a at) }
     {
         self.slot_check(Question::Keep, at)?;
         let held = self.engine.registers.get(a);
@@ -77,7 +77,7 @@ impl<M: Memory> Machine<M> {
     fn put_slot(&mut self, slot: usize, held: Holding)
         requires fine { fine (core_of self.old).counters held ≡ true }
         requires lasting { is_short held ≡ false }
-        ensures { model bytes self.new ≡ record { plan = plan_of self.old; core = slotted slot held (core_of self.old); bytes = bytes self.old.memory } }
+        ensures { model M.bytes self.new ≡ record { plan = plan_of self.old; core = slotted slot held (core_of self.old); bytes = M.bytes self.old.memory } }
     {
         if slot < 64 {
             self.slots[slot] = held;
@@ -100,8 +100,8 @@ impl<M: Memory> Machine<M> {
     // FETCH
     pub(crate) fn fetch(&mut self, a: u8, at: usize) -> Result<Done, Fault>
         requires room { place_of (core_of self.old) % 256 ≢ 252 }
-        ensures after { model bytes self.new ≡ stepped (model bytes self.old) (fetch_rule (plan_of self.old) (core_of self.old) a at) }
-        ensures answer { result ≡ said (model bytes self.old) (fetch_rule (plan_of self.old) (core_of self.old) a at) }
+        ensures after { model M.bytes self.new ≡ stepped (model M.bytes self.old) (fetch_rule (plan_of self.old) (core_of self.old) a at) }
+        ensures answer { result ≡ said (model M.bytes self.old) (fetch_rule (plan_of self.old) (core_of self.old) a at) }
     {
         self.slot_check(Question::Fetch, at)?;
         let content = self.content(at);

@@ -19,16 +19,16 @@ use memory::Memory;
 impl<M: Memory> Machine<M> {
     // The host writes one byte.
     pub fn deposit(&mut self, address: usize, byte: u8) -> Result<Done, Fault>
-        ensures after { model bytes self.new ≡ stepped (model bytes self.old) (deposit_rule (plan_of self.old) (core_of self.old) address byte) }
-        ensures answer { result ≡ said (model bytes self.old) (deposit_rule (plan_of self.old) (core_of self.old) address byte) }
-        ensures refuses { Refuses (model bytes self.old) (model bytes self.new) result }
+        ensures after { model M.bytes self.new ≡ stepped (model M.bytes self.old) (deposit_rule (plan_of self.old) (core_of self.old) address byte) }
+        ensures answer { result ≡ said (model M.bytes self.old) (deposit_rule (plan_of self.old) (core_of self.old) address byte) }
+        ensures refuses { Refuses (model M.bytes self.old) (model M.bytes self.new) result }
     {
         self.write_within(address, byte)
     }
 
     fn write_within(&mut self, address: usize, byte: u8) -> Result<Done, Fault>
-        ensures after { model bytes self.new ≡ stepped (model bytes self.old) (deposit_rule (plan_of self.old) (core_of self.old) address byte) }
-        ensures answer { result ≡ said (model bytes self.old) (deposit_rule (plan_of self.old) (core_of self.old) address byte) }
+        ensures after { model M.bytes self.new ≡ stepped (model M.bytes self.old) (deposit_rule (plan_of self.old) (core_of self.old) address byte) }
+        ensures answer { result ≡ said (model M.bytes self.old) (deposit_rule (plan_of self.old) (core_of self.old) address byte) }
     {
         self.demand(Refusal::AddressRange, address < 32768)?;
         self.kind_check(address)?;
@@ -64,7 +64,7 @@ impl<M: Memory> Machine<M> {
         level: u32,
     ) -> Result<Slip, Fault>
         ensures answer { result ≡ lend_answer (lend_check (plan_of self.old) (core_of self.old) counter register base size level) (core_of self.old) counter }
-        ensures after { model bytes self.new ≡ record { plan = plan_of self.old; core = lend_core (lend_check (plan_of self.old) (core_of self.old) counter register base size level) (core_of self.old) (lent (core_of self.old) counter register base size level); bytes = bytes self.old.memory } }
+        ensures after { model M.bytes self.new ≡ record { plan = plan_of self.old; core = lend_core (lend_check (plan_of self.old) (core_of self.old) counter register base size level) (core_of self.old) (lent (core_of self.old) counter register base size level); bytes = M.bytes self.old.memory } }
     {
         self.lend_check(counter, register, base, size, level)?;
         let reading = reading_of(&self.counters, counter);
@@ -117,17 +117,17 @@ impl<M: Memory> Machine<M> {
     // The host takes a loan back: 1 if the slip's counter is out at its reading, else 0 and nothing changes.
     // What was lent on the slip, and every copy of it, then grants nothing, whatever happens next.
     pub fn recall(&mut self, slip: Slip) -> Done
-        ensures after { model bytes self.new ≡ stepped (model bytes self.old) (recall_rule (core_of self.old) slip.counter slip.reading) }
-        ensures answer { Ok result ≡ said (model bytes self.old) (recall_rule (core_of self.old) slip.counter slip.reading) }
-        ensures dead { result.value ≡ 1 → Dead (model bytes self.new) slip.counter slip.reading }
+        ensures after { model M.bytes self.new ≡ stepped (model M.bytes self.old) (recall_rule (core_of self.old) slip.counter slip.reading) }
+        ensures answer { Ok result ≡ said (model M.bytes self.old) (recall_rule (core_of self.old) slip.counter slip.reading) }
+        ensures dead { result.value ≡ 1 → Dead (model M.bytes self.new) slip.counter slip.reading }
     {
         let Slip { counter, reading } = slip;
         self.take_back(counter, reading)
     }
 
     fn take_back(&mut self, counter: u8, reading: u32) -> Done
-        ensures after { model bytes self.new ≡ stepped (model bytes self.old) (recall_rule (core_of self.old) counter reading) }
-        ensures answer { Ok result ≡ said (model bytes self.old) (recall_rule (core_of self.old) counter reading) }
+        ensures after { model M.bytes self.new ≡ stepped (model M.bytes self.old) (recall_rule (core_of self.old) counter reading) }
+        ensures answer { Ok result ≡ said (model M.bytes self.old) (recall_rule (core_of self.old) counter reading) }
         ensures past { result.value ≡ 1 → reading_of (core_of self.new).counters counter ≡ reading + 1 }
     {
         let place = self.engine.place;

@@ -11,7 +11,7 @@ use memory::Memory;
 // The only functions that touch the memory.
 impl<M: Memory> Machine<M> {
     pub(crate) fn read_byte(&self, address: usize) -> Result<u8, Fault>
-        ensures { result ≡ told_at (place_of (core_of self.now)) (read_of (bytes self.now.memory) address) }
+        ensures { result ≡ told_at (place_of (core_of self.now)) (read_of (M.bytes self.now.memory) address) }
     {
         match self.memory.read(address) {
             Ok(byte) => Ok(byte),
@@ -20,8 +20,8 @@ impl<M: Memory> Machine<M> {
     }
 
     pub(crate) fn write_byte(&mut self, address: usize, byte: u8) -> Result<(), Fault>
-        ensures answer { result ≡ told_at (place_of (core_of self.old)) (write_of (bytes self.old.memory) address) }
-        ensures after { model bytes self.new ≡ record { plan = plan_of self.old; core = core_of self.old; bytes = wrote result (bytes self.old.memory) address byte } }
+        ensures answer { result ≡ told_at (place_of (core_of self.old)) (write_of (M.bytes self.old.memory) address) }
+        ensures after { model M.bytes self.new ≡ record { plan = plan_of self.old; core = core_of self.old; bytes = wrote result (M.bytes self.old.memory) address byte } }
     {
         match self.memory.write(address, byte) {
             Ok(()) => Ok(()),

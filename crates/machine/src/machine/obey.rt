@@ -19,16 +19,16 @@ use memory::Memory;
 impl<M: Memory> Machine<M> {
     // Obeys one record, which may be any bytes. A refusal leaves everything as it was, and its fault tells the truth.
     pub fn obey(&mut self, word: &[u8]) -> Result<Done, Fault>
-        ensures after { model bytes self.new ≡ stepped (model bytes self.old) (obey_rule (plan_of self.old) (core_of self.old) word.now) }
-        ensures answer { result ≡ said (model bytes self.old) (obey_rule (plan_of self.old) (core_of self.old) word.now) }
-        ensures refuses { Refuses (model bytes self.old) (model bytes self.new) result }
+        ensures after { model M.bytes self.new ≡ stepped (model M.bytes self.old) (obey_rule (plan_of self.old) (core_of self.old) word.now) }
+        ensures answer { result ≡ said (model M.bytes self.old) (obey_rule (plan_of self.old) (core_of self.old) word.now) }
+        ensures refuses { Refuses (model M.bytes self.old) (model M.bytes self.new) result }
     {
         self.decode_and_follow(word)
     }
 
     fn decode_and_follow(&mut self, word: &[u8]) -> Result<Done, Fault>
-        ensures after { model bytes self.new ≡ stepped (model bytes self.old) (obey_rule (plan_of self.old) (core_of self.old) word.now) }
-        ensures answer { result ≡ said (model bytes self.old) (obey_rule (plan_of self.old) (core_of self.old) word.now) }
+        ensures after { model M.bytes self.new ≡ stepped (model M.bytes self.old) (obey_rule (plan_of self.old) (core_of self.old) word.now) }
+        ensures answer { result ≡ said (model M.bytes self.old) (obey_rule (plan_of self.old) (core_of self.old) word.now) }
     {
         match decode(word) {
             Ok(decoded) => self.follow(decoded),
@@ -38,8 +38,8 @@ impl<M: Memory> Machine<M> {
 
     fn follow(&mut self, d: Decoded) -> Result<Done, Fault>
         requires { fitting d ≡ true }
-        ensures after { model bytes self.new ≡ stepped (model bytes self.old) (obey_decoded (plan_of self.old) (core_of self.old) (Ok d)) }
-        ensures answer { result ≡ said (model bytes self.old) (obey_decoded (plan_of self.old) (core_of self.old) (Ok d)) }
+        ensures after { model M.bytes self.new ≡ stepped (model M.bytes self.old) (obey_decoded (plan_of self.old) (core_of self.old) (Ok d)) }
+        ensures answer { result ≡ said (model M.bytes self.old) (obey_decoded (plan_of self.old) (core_of self.old) (Ok d)) }
     {
         let room = self.has_room(d.op, d.a);
         self.demand(Refusal::PageEnd, room)?;
@@ -81,8 +81,8 @@ impl<M: Memory> Machine<M> {
     fn carry_out(&mut self, d: Decoded) -> Result<Done, Fault>
         requires fitting { fitting d ≡ true }
         requires room { (not (place_of (core_of self.old) % 256 == 252) || leaves (core_of self.old) d.op d.a) ≡ true }
-        ensures after { model bytes self.new ≡ stepped (model bytes self.old) (row (plan_of self.old) (core_of self.old) d.op d.a d.b d.c d.v) }
-        ensures answer { result ≡ said (model bytes self.old) (row (plan_of self.old) (core_of self.old) d.op d.a d.b d.c d.v) }
+        ensures after { model M.bytes self.new ≡ stepped (model M.bytes self.old) (row (plan_of self.old) (core_of self.old) d.op d.a d.b d.c d.v) }
+        ensures answer { result ≡ said (model M.bytes self.old) (row (plan_of self.old) (core_of self.old) d.op d.a d.b d.c d.v) }
     {
         match d.op {
             Op::Set => self.set(d.a, d.v),

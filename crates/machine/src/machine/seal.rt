@@ -13,7 +13,7 @@ use plan::draft::Draft;
 impl<M: Memory> Machine<M> {
     // Joins a draft and a memory into a machine at its start. The draft is used up.
     pub fn seal(draft: Draft, memory: M) -> Machine<M>
-        ensures { model bytes result ≡ record { plan = (drafted draft).plan; core = started; bytes = bytes memory } }
+        ensures { model M.bytes result ≡ record { plan = (drafted draft).plan; core = started; bytes = M.bytes memory } }
     {
         Machine {
             engine: Engine::new(),

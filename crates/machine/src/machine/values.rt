@@ -15,7 +15,7 @@ impl<M: Memory> Machine<M> {
     // The place grows by 4, and a value is answered.
     pub(crate) fn go_on(&mut self, value: u32) -> Result<Done, Fault>
         requires room { place_of (core_of self.old) % 256 ≢ 252 }
-        ensures after { model bytes self.new ≡ record { plan = plan_of self.old; core = on (core_of self.old); bytes = bytes self.old.memory } }
+        ensures after { model M.bytes self.new ≡ record { plan = plan_of self.old; core = on (core_of self.old); bytes = M.bytes self.old.memory } }
         ensures answer { result ≡ Ok (record { place = place_of (core_of self.old) + 4; value = value }) }
     {
         let place = self.engine.place + 4;
@@ -26,8 +26,8 @@ impl<M: Memory> Machine<M> {
     // SET
     pub(crate) fn set(&mut self, a: u8, v: u32) -> Result<Done, Fault>
         requires room { place_of (core_of self.old) % 256 ≢ 252 }
-        ensures after { model bytes self.new ≡ stepped (model bytes self.old) (set_rule (core_of self.old) a v) }
-        ensures answer { result ≡ said (model bytes self.old) (set_rule (core_of self.old) a v) }
+        ensures after { model M.bytes self.new ≡ stepped (model M.bytes self.old) (set_rule (core_of self.old) a v) }
+        ensures answer { result ≡ said (model M.bytes self.old) (set_rule (core_of self.old) a v) }
     {
         self.engine.set_value(a, v);
         self.go_on(v)
@@ -36,8 +36,8 @@ impl<M: Memory> Machine<M> {
     // ADD
     pub(crate) fn add(&mut self, a: u8, b: u8) -> Result<Done, Fault>
         requires room { place_of (core_of self.old) % 256 ≢ 252 }
-        ensures after { model bytes self.new ≡ stepped (model bytes self.old) (add_rule (core_of self.old) a b) }
-        ensures answer { result ≡ said (model bytes self.old) (add_rule (core_of self.old) a b) }
+        ensures after { model M.bytes self.new ≡ stepped (model M.bytes self.old) (add_rule (core_of self.old) a b) }
+        ensures answer { result ≡ said (model M.bytes self.old) (add_rule (core_of self.old) a b) }
     {
         let sum = self.engine.value(a).wrapping_add(self.engine.value(b));
         self.engine.set_value(a, sum);
@@ -47,8 +47,8 @@ impl<M: Memory> Machine<M> {
     // LOAD
     pub(crate) fn load(&mut self, a: u8, at: usize) -> Result<Done, Fault>
         requires room { place_of (core_of self.old) % 256 ≢ 252 }
-        ensures after { model bytes self.new ≡ stepped (model bytes self.old) (load_rule (plan_of self.old) (core_of self.old) a at) }
-        ensures answer { result ≡ said (model bytes self.old) (load_rule (plan_of self.old) (core_of self.old) a at) }
+        ensures after { model M.bytes self.new ≡ stepped (model M.bytes self.old) (load_rule (plan_of self.old) (core_of self.old) a at) }
+        ensures answer { result ≡ said (model M.bytes self.old) (load_rule (plan_of self.old) (core_of self.old) a at) }
     {
         self.byte_check(Question::Load, at)?;
         let byte = self.read_byte(at)?;
@@ -59,8 +59,8 @@ impl<M: Memory> Machine<M> {
     // STORE
     pub(crate) fn store(&mut self, a: u8, at: usize) -> Result<Done, Fault>
         requires room { place_of (core_of self.old) % 256 ≢ 252 }
-        ensures after { model bytes self.new ≡ stepped (model bytes self.old) (store_rule (plan_of self.old) (core_of self.old) a at) }
-        ensures answer { result ≡ said (model bytes self.old) (store_rule (plan_of self.old) (core_of self.old) a at) }
+        ensures after { model M.bytes self.new ≡ stepped (model M.bytes self.old) (store_rule (plan_of self.old) (core_of self.old) a at) }
+        ensures answer { result ≡ said (model M.bytes self.old) (store_rule (plan_of self.old) (core_of self.old) a at) }
     {
         self.byte_check(Question::Store, at)?;
         let byte = (self.engine.value(a) % 256) as u8;
@@ -71,8 +71,8 @@ impl<M: Memory> Machine<M> {
     // PANEL
     pub(crate) fn show(&mut self, a: u8) -> Result<Done, Fault>
         requires room { place_of (core_of self.old) % 256 ≢ 252 }
-        ensures after { model bytes self.new ≡ stepped (model bytes self.old) (panel_rule (plan_of self.old) (core_of self.old) a) }
-        ensures answer { result ≡ said (model bytes self.old) (panel_rule (plan_of self.old) (core_of self.old) a) }
+        ensures after { model M.bytes self.new ≡ stepped (model M.bytes self.old) (panel_rule (plan_of self.old) (core_of self.old) a) }
+        ensures answer { result ≡ said (model M.bytes self.old) (panel_rule (plan_of self.old) (core_of self.old) a) }
     {
         self.demand(
             Refusal::NotPrivileged,

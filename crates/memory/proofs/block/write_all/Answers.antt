@@ -4,8 +4,8 @@ use Rattle.memory.proofs.Checked.{wrote-set}
 use Rattle.memory.proofs.Laying.{laid_more, laid_all}
 use Rattle.memory.proofs.block.write_all.Goals as goal
 
-pub overflow-add-start : goal.overflow-add-start
-overflow-add-start g c = omega arith
+pub overflow_add-start : goal.overflow_add-start
+overflow_add-start g c = omega arith
 
 pub loop-i-preserved : goal.loop-i-preserved
 loop-i-preserved g c =

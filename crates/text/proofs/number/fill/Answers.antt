@@ -2,14 +2,14 @@ use Rattle.std.proofs.Common.{cond, length, take, Some, None, sym, ap, ◌∙◌
 use Rattle.text.proofs.Filling.{filled_all, filled_more, filled_none, filled_short, flip}
 use Rattle.text.proofs.number.fill.Goals as goal
 
-pub returns-in-default : goal.returns-in-default
-returns-in-default c =
-    filled_short (length c.args.fields.now) c.loop-i.i (take c.loop-i.i c.loop-i.fields) _ c.loop-i-test.true c.in-default.ensures.word
+pub returns-in_default : goal.returns-in_default
+returns-in_default c =
+    filled_short (length c.args.fields.now) c.loop-i.i (take c.loop-i.i c.loop-i.fields) _ c.loop-i-test.true c.in_default.ensures.word
     ∙ c.loop-i.invariant
 
-pub returns-in-default-number : goal.returns-in-default-number
-returns-in-default-number c =
-    filled_none (length c.args.fields.now) c.loop-i.i c.loop-i-test.true _ _ (take c.loop-i.i c.loop-i.fields) c.in-Some.word.bytes.now c.in-Some.ensures.word (sym c.in-default-number.ensures.value)
+pub returns-in_default-number : goal.returns-in_default-number
+returns-in_default-number c =
+    filled_none (length c.args.fields.now) c.loop-i.i c.loop-i-test.true _ _ (take c.loop-i.i c.loop-i.fields) c.in-Some.word.bytes.now c.in-Some.ensures.word (sym c.in_default-number.ensures.value)
     ∙ c.loop-i.invariant
 
 pub loop-i-preserved : goal.loop-i-preserved

@@ -13,7 +13,7 @@ returns-in-Flat c =
     let job = c.args.job in
     let rs = c.as-slice.result.now in
     let over = λ (bs : List ℕ). rows_from (record { plan = (drafted job.draft).plan; core = started; bytes = bs }) 1 rs in
-    let zeros = c.new.ensures ∙ c.deref-mut.ensures.value ∙ c.in-ok-area.ensures.items-if-clones-equal (λ y h. h) in
+    let zeros = c.new.ensures ∙ c.deref-mut.ensures.value ∙ c.in_ok-area.ensures.items-if-clones-equal (λ y h. h) in
     let e = ap over (ap (take 32768) zeros ∙ flat_zeros job.size (omega (arith, job.fits, ap longest_of c.in-Flat.is))) ∙ ap (rows_from (start_of (task_of job)) 1) c.as-slice.ensures.value in
     subst (λ (ys : List ℕ). IfOk c.run-over.result (λ _. string_bytes c.run-over.new.out ≡ string_bytes c.args.out.now ++ ys)) e c.run-over.ensures
 
@@ -22,6 +22,6 @@ returns c =
     let job = c.args.job in
     let rs = c.as-slice-in-Nibble.result.now in
     let over = λ (bs : List ℕ). rows_from (record { plan = (drafted job.draft).plan; core = started; bytes = bs }) 1 rs in
-    let zeros = c.new-in-Nibble.ensures ∙ c.deref-mut-in-Nibble.ensures.value ∙ c.in-ok-area-2.ensures.items-if-clones-equal (λ y h. h) in
+    let zeros = c.new-in-Nibble.ensures ∙ c.deref-mut-in-Nibble.ensures.value ∙ c.in_ok-area-2.ensures.items-if-clones-equal (λ y h. h) in
     let e = ap over (ap (join_halves 16384) zeros ∙ nibble_zeros job.size (omega (arith, job.fits, ap longest_of c.in-Nibble.is))) ∙ ap (rows_from (start_of (task_of job)) 1) c.as-slice-in-Nibble.ensures.value in
     subst (λ (ys : List ℕ). IfOk c.run-over-in-Nibble.result (λ _. string_bytes c.run-over-in-Nibble.new.out ≡ string_bytes c.args.out.now ++ ys)) e c.run-over-in-Nibble.ensures

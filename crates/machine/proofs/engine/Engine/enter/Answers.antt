@@ -4,8 +4,8 @@ use Rattle.machine.specs.declared.frame.Frame.{Frame}
 use Rattle.machine.proofs.Ladders.{call_climbs, call_bottom}
 use Rattle.machine.proofs.engine.Engine.enter.Goals as goal
 
-pub invariant-of-self : goal.invariant-of-self
-invariant-of-self c =
+pub invariant_of-self : goal.invariant_of-self
+invariant_of-self c =
     let s = c.args.self.now in (
       s.values8,
       (

@@ -7,8 +7,8 @@ use Rattle.machine.proofs.InUse.{last_in_use, rest_in_use}
 use Rattle.machine.proofs.Ladders.{floor-below, return_bottom, return_climbs}
 use Rattle.machine.proofs.engine.Engine.leave.Goals as goal
 
-pub invariant-of-self : goal.invariant-of-self
-invariant-of-self c =
+pub invariant_of-self : goal.invariant_of-self
+invariant_of-self c =
     let s = c.args.self.now in
     let f = floor-below (take s.depth s.frames) s.floor s.height s.rising in (
       s.values8,

@@ -6,8 +6,8 @@ use Rattle.machine.proofs.InUse.{last_in_use, rest_in_use}
 use Rattle.machine.proofs.Ladders.{climbs-height, head_height}
 use Rattle.machine.proofs.engine.Engine.pop.Goals as goal
 
-pub invariant-of-self : goal.invariant-of-self
-invariant-of-self c =
+pub invariant_of-self : goal.invariant_of-self
+invariant_of-self c =
     let s = c.args.self.now in
     let fs = take s.depth s.frames in (
       s.values8,

@@ -3,8 +3,8 @@ use Rattle.std.proofs.lemmas.List.{take_more_set}
 use Rattle.machine.proofs.Ladders.{climbs-height, floor-below, head_height}
 use Rattle.machine.proofs.engine.Engine.push.Goals as goal
 
-pub invariant-of-self : goal.invariant-of-self
-invariant-of-self c =
+pub invariant_of-self : goal.invariant_of-self
+invariant_of-self c =
     let s = c.args.self.now in
     let fs = take s.depth s.frames in
     let f = floor-below fs s.floor s.height s.rising in (

@@ -4,8 +4,8 @@ use Rattle.machine.proofs.Passing.{entered}
 use Rattle.machine.proofs.Sounds.{sound_called}
 use Rattle.machine.proofs.machine.Machine.call.Goals as goal
 
-pub invariant-of-self : goal.invariant-of-self
-invariant-of-self g c =
+pub invariant_of-self : goal.invariant_of-self
+invariant_of-self g c =
     let m = c.args.self.now in
-    let t = entered (plan_of m) (core_of m) c.args.to c.in-ok-entrance.ensures in
+    let t = entered (plan_of m) (core_of m) c.args.to c.in_ok-entrance.ensures in
     (m.slots64, (m.counters17, refitted m _ _ c.enter.ensures (sound_called (plan_of m) (core_of m) (sound_of m) c.args.to t c.requires.room)))

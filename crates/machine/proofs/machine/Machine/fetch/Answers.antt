@@ -7,8 +7,8 @@ use Rattle.machine.proofs.Sounds.{sound_took}
 use Rattle.plan.specs.Tables.{slot_at}
 use Rattle.machine.proofs.machine.Machine.fetch.Goals as goal
 
-pub invariant-of-self : goal.invariant-of-self
-invariant-of-self g c =
+pub invariant_of-self : goal.invariant_of-self
+invariant_of-self g c =
     let m = c.args.self.now in
     let f = ap (fine m.counters) c.content-content.ensures ∙ fine-content (core_of m) m.slots_fine (slot_at (plan_of m) c.args.at) in
     (m.slots64, (m.counters17, refitted m _ _ c.tell.ensures (sound_took (plan_of m) (core_of m) (sound_of m) c.args.a c.content-content.result f)))

@@ -8,10 +8,10 @@ use Rattle.machine.proofs.Passing.{demand_passed}
 use Rattle.machine.proofs.Sounds.{sound_returned}
 use Rattle.machine.proofs.machine.Machine.leave.Goals as goal
 
-pub invariant-of-self : goal.invariant-of-self
-invariant-of-self g c =
+pub invariant_of-self : goal.invariant_of-self
+invariant_of-self g c =
     let m = c.args.self.now in
     let d = m.engine.depth in
-    let l = ltb-true 0 d (demand_passed (core_of m) StackEmpty (ltb 0 d) c.in-ok-demand.ensures) in
+    let l = ltb-true 0 d (demand_passed (core_of m) StackEmpty (ltb 0 d) c.in_ok-demand.ensures) in
     let n = length-take-le d m.engine.frames (omega arith) in
     (m.slots64, (m.counters17, refitted m _ _ c.leave.ensures (sound_returned (plan_of m) (core_of m) (sound_of m) (omega (arith, l, n)))))

@@ -9,15 +9,15 @@ use Rattle.machine.proofs.Lending.{lend_passed, sound_lent_at}
 use Rattle.machine.proofs.Machines.{facts, sound_of}
 use Rattle.machine.proofs.machine.Machine.lend.Goals as goal
 
-pub invariant-of-self : goal.invariant-of-self
-invariant-of-self g c =
+pub invariant_of-self : goal.invariant_of-self
+invariant_of-self g c =
     let m = c.args.self.now in
     let p = plan_of m in
     let d = core_of m in
     let a = c.args in
     let n = c.reading-of-reading.result in
     let x : Counter = record { reading = n; out = true } in
-    let l = lend_passed p d a.counter a.register a.base a.size a.level c.in-ok-lend-check.ensures in
+    let l = lend_passed p d a.counter a.register a.base a.size a.level c.in_ok-lend-check.ensures in
     let s = sound_lent_at p d a.counter a.register a.base a.size a.level n c.unwrap-or.result (sound_of m) l c.reading-of-reading.ensures (c.unwrap-or.ensures ∙ ap (λ o. unwrap_or o Nothing) c.named.ensures) in (
       m.slots64,
       (

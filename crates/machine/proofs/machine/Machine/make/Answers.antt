@@ -11,14 +11,14 @@ use Rattle.machine.proofs.Passing.{both_passed, demand_passed}
 use Rattle.machine.proofs.Sounds.{sound_took}
 use Rattle.machine.proofs.machine.Machine.make.Goals as goal
 
-pub invariant-of-self : goal.invariant-of-self
-invariant-of-self g c =
+pub invariant_of-self : goal.invariant_of-self
+invariant_of-self g c =
     let m = c.args.self.now in
     let p = plan_of m in
     let d = core_of m in
     let x = c.args.right in
     let life = c.args.life in
-    let q = both_passed (span_check d x.base x.size) (and_then (life_check p d life) (list_check p d x)) c.in-ok-make-check.ensures in
+    let q = both_passed (span_check d x.base x.size) (and_then (life_check p d life) (list_check p d x)) c.in_ok-make-check.ensures in
     let r = both_passed (life_check p d life) (list_check p d x) q.1 in
     let h = formed-right x (demand_passed d BadSpan (spans x.base x.size) q.0) c.requires.granting in
     let f = ap (fine m.counters) c.made-made.ensures ∙ fine-made p d x life h c.requires.lives r.0 in

@@ -7,8 +7,8 @@ use Rattle.machine.proofs.Machines.{refitted, sound_of}
 use Rattle.machine.proofs.Sounds.{sound_popped, sound_took}
 use Rattle.machine.proofs.machine.Machine.pop.Goals as goal
 
-pub invariant-of-self : goal.invariant-of-self
-invariant-of-self g c =
+pub invariant_of-self : goal.invariant_of-self
+invariant_of-self g c =
     let m = c.args.self.now in
     let d = core_of m in
     let n = height d - 1 in

@@ -7,8 +7,8 @@ use Rattle.machine.proofs.Machines.{facts, sound_of}
 use Rattle.machine.proofs.Sounds.{sound_slotted}
 use Rattle.machine.proofs.machine.Machine.put_slot.Goals as goal
 
-pub invariant-of-self : goal.invariant-of-self
-invariant-of-self g c =
+pub invariant_of-self : goal.invariant_of-self
+invariant_of-self g c =
     let m = c.args.self.now in (
       length-set m.slots c.args.slot _ ∙ m.slots64,
       (m.counters17, facts (plan_of m) (slotted c.args.slot c.args.held (core_of m)) (sound_slotted (plan_of m) (core_of m) (sound_of m) c.args.slot c.args.held c.requires.fine c.requires.lasting)),

@@ -12,15 +12,15 @@ use Rattle.plan.specs.Tables.{owner_of}
 use Rattle.std.proofs.lemmas.Bool.{eqb-true, ltb-true}
 use Rattle.machine.proofs.machine.Machine.revoke.Goals as goal
 
-pub invariant-of-self : goal.invariant-of-self
-invariant-of-self g c =
+pub invariant_of-self : goal.invariant_of-self
+invariant_of-self g c =
     let m = c.args.self.now in
     let p = plan_of m in
     let d = core_of m in
     let k = c.args.counter in
     let old = get_or m.counters k fresh in
-    let same = eqb-true c.owner.result c.tag.result (demand_passed d NotOwner (eqb c.owner.result c.tag.result) c.in-ok-demand.ensures) in
-    let low = ltb-true old.reading 999999 (demand_passed d CounterSpent (ltb old.reading 999999) c.in-ok-demand-2.ensures) in
+    let same = eqb-true c.owner.result c.tag.result (demand_passed d NotOwner (eqb c.owner.result c.tag.result) c.in_ok-demand.ensures) in
+    let low = ltb-true old.reading 999999 (demand_passed d CounterSpent (ltb old.reading 999999) c.in_ok-demand-2.ensures) in
     let tagged = (m.plan.proper (m.engine.place / 256)).2 m.grounded.2 in
     let owned : 0 < owner_of p k = omega (arith, same, c.owner.ensures, c.tag.ensures, tagged) in
     let x = raised_counter old in

@@ -11,8 +11,8 @@ use Rattle.plan.specs.Tables.{owner_of}
 use Rattle.std.proofs.lemmas.Bool.{not-false}
 use Rattle.machine.proofs.machine.Machine.take_back.Goals as goal
 
-pub invariant-of-self : goal.invariant-of-self
-invariant-of-self g c =
+pub invariant_of-self : goal.invariant_of-self
+invariant_of-self g c =
     let m = c.args.self.now in
     let p = plan_of m in
     let k = c.args.counter in

@@ -4,17 +4,17 @@ use Rattle.memory.proofs.Checked.{checked_in, checked_out}
 use Rattle.memory.proofs.Halves.{halves-length, halves-put}
 use Rattle.memory.proofs.nibble.NibbleMemory.write.Goals as goal
 
-pub overflow-mul-self : goal.overflow-mul-self
-overflow-mul-self c = record { fits = omega (arith, c.size-size.ensures, halves-length 16384 c.args.self.now.area.now) }
+pub overflow_mul-self : goal.overflow_mul-self
+overflow_mul-self c = record { fits = omega (arith, c.size-size.ensures, halves-length 16384 c.args.self.now.area.now) }
 
 pub bounds-self-address : goal.bounds-self-address
 bounds-self-address c = omega (arith, c.size-size.ensures, halves-length 16384 c.args.self.now.area.now)
 
-pub overflow-mul-self-then-address-size : goal.overflow-mul-self-then-address-size
-overflow-mul-self-then-address-size c = record { fits = omega (arith, c.size-size.ensures, halves-length 16384 c.args.self.now.area.now) }
+pub overflow_mul-self-then-address-size : goal.overflow_mul-self-then-address-size
+overflow_mul-self-then-address-size c = record { fits = omega (arith, c.size-size.ensures, halves-length 16384 c.args.self.now.area.now) }
 
-pub overflow-add-self : goal.overflow-add-self
-overflow-add-self c = record { fits = omega (arith, c.size-size.ensures, halves-length 16384 c.args.self.now.area.now) }
+pub overflow_add-self : goal.overflow_add-self
+overflow_add-self c = record { fits = omega (arith, c.size-size.ensures, halves-length 16384 c.args.self.now.area.now) }
 
 pub bounds-self-address-then-address-size : goal.bounds-self-address-then-address-size
 bounds-self-address-then-address-size c = simp length-set (omega (arith, c.size-size.ensures, halves-length 16384 c.args.self.now.area.now))

@@ -5,8 +5,8 @@ use Rattle.plan.proofs.Each.{any_new}
 use Rattle.plan.proofs.Plans.{page_first, page_proper, page_stored, store_stored}
 use Rattle.plan.proofs.draft.Draft.page.Goals as goal
 
-pub invariant-of-self-2 : goal.invariant-of-self-2
-invariant-of-self-2 c =
+pub invariant_of-self-2 : goal.invariant_of-self-2
+invariant_of-self-2 c =
     let p = c.args.self.now.plan in
     let i = c.in-Some.i in
     let n = c.args.page in (
@@ -14,8 +14,8 @@ invariant-of-self-2 c =
       (c.args.self.now.given17, tt),
     )
 
-pub invariant-of-self-3 : goal.invariant-of-self-3
-invariant-of-self-3 c =
+pub invariant_of-self-3 : goal.invariant_of-self-3
+invariant_of-self-3 c =
     let p = c.args.self.now.plan in
     let i = c.in-Some.i in
     let n = c.args.page in

@@ -5,11 +5,11 @@ use Rattle.plan.proofs.Slots.{found_any, one_slot}
 use Rattle.std.proofs.lemmas.Bool.{both_ways}
 use Rattle.plan.proofs.tables.Plan.slot_at.Goals as goal
 
-pub overflow-mul-result : goal.overflow-mul-result
-overflow-mul-result c = record { fits = omega (arith, c.in-Some.ensures.within) }
+pub overflow_mul-result : goal.overflow_mul-result
+overflow_mul-result c = record { fits = omega (arith, c.in-Some.ensures.within) }
 
-pub overflow-add-result : goal.overflow-add-result
-overflow-add-result c = record { fits = omega (arith, c.in-Some.ensures.within) }
+pub overflow_add-result : goal.overflow_add-result
+overflow_add-result c = record { fits = omega (arith, c.in-Some.ensures.within) }
 
 pub returns-in-Some : goal.returns-in-Some
 returns-in-Some c =

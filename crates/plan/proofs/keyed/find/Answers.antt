@@ -13,7 +13,7 @@ returns-then-is-under g c = record {
 
 pub loop-i-preserved : goal.loop-i-preserved
 loop-i-preserved g c =
-    sym (on (λ x. g.T.Keyed.under x c.args.key) c.args.records.now c.loop-i.i _ c.loop-i-test.true c.index-records-i.is (sym c.is-under.ensures ∙ c.if-is-under.false))
+    sym (on (λ x. g.T.Keyed.under x c.args.key) c.args.records.now c.loop-i.i _ c.loop-i-test.true c.index-records-i.is (sym c.is_under.ensures ∙ c.if-is_under.false))
     ∙ c.loop-i.invariant
 
 pub returns : goal.returns

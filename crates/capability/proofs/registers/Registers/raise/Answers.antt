@@ -12,7 +12,7 @@ loop-r-preserved c =
     let l = c.loop-r.level in
     let i = c.loop-r.r-index in
     let hs = c.args.self.now.held in
-    ap (λ x. raised ks a n x (drop (i + 1) hs)) (c.higher-level.ensures ∙ ap (higher_of l) c.level-over.ensures)
+    ap (λ x. raised ks a n x (drop (i + 1) hs)) (c.higher-level.ensures ∙ ap (higher_of l) c.level_over.ensures)
     ∙ sym (at_drop_more (raised ks a n l) hs i empty (omega arith)) ∙ c.loop-r.invariant
 
 pub returns : goal.returns

@@ -4,11 +4,11 @@ use Rattle.plan.specs.First.{first_from}
 use Rattle.plan.proofs.Finding.{here, on}
 use Rattle.plan.proofs.keyed.find.Goals as goal
 
-pub returns-then-is-under : goal.returns-then-is-under
-returns-then-is-under g c = record {
-  value = sym (here (λ x. g.T.Keyed.under x c.args.key) c.args.records.now c.loop-i.i _ c.loop-i-test.true c.index-records-i.is (sym c.is-under.ensures ∙ c.if-is-under.true)) ∙ c.loop-i.invariant;
+pub returns-then-is_under : goal.returns-then-is_under
+returns-then-is_under g c = record {
+  value = sym (here (λ x. g.T.Keyed.under x c.args.key) c.args.records.now c.loop-i.i _ c.loop-i-test.true c.index-records-i.is (sym c.is_under.ensures ∙ c.if-is_under.true)) ∙ c.loop-i.invariant;
   within = c.loop-i-test.true;
-  holds = λ d. ap (λ x. g.T.Keyed.under x c.args.key) (sym (get_or_read c.args.records.now c.loop-i.i _ c.loop-i-test.true c.index-records-i.is d)) ∙ sym c.is-under.ensures ∙ c.if-is-under.true;
+  holds = λ d. ap (λ x. g.T.Keyed.under x c.args.key) (sym (get_or_read c.args.records.now c.loop-i.i _ c.loop-i-test.true c.index-records-i.is d)) ∙ sym c.is_under.ensures ∙ c.if-is_under.true;
 }
 
 pub loop-i-preserved : goal.loop-i-preserved

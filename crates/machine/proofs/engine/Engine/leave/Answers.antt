@@ -38,5 +38,5 @@ returns c =
     let top = last_in_use s.frames s.depth c.requires (omega arith) no_frame in
     let rest = rest_in_use s.frames s.depth c.requires (omega arith) in
     let cut : take s.floor (take s.height s.stack) ≡ take s.floor s.stack = take-take s.floor s.height s.stack f in
-    let told = c.tell-all.ensures ∙ ap (λ (m : ℕ). map (λ h. after h (Returned (m - 1))) s.registers.held) (sym n) in
+    let told = c.tell_all.ensures ∙ ap (λ (m : ℕ). map (λ h. after h (Returned (m - 1))) s.registers.held) (sym n) in
     cc

@@ -15,7 +15,7 @@ invariant_of-self g c =
     let m = c.args.self.now in
     let x = c.args.right in
     let held = c.get-held.result in
-    let s = c.is-span.ensures in
-    let h = formed-right x (sym s ∙ demand_passed (core_of m) BadSpan c.is-span.result c.in_ok-demand.ensures) c.requires.granting in
+    let s = c.is_span.ensures in
+    let h = formed-right x (sym s ∙ demand_passed (core_of m) BadSpan c.is_span.result c.in_ok-demand.ensures) c.requires.granting in
     let f = ap (fine m.counters) c.cut.ensures ∙ fine-cut m.counters x held h (ap (fine m.counters) c.get-held.ensures ∙ m.registers_fine c.args.source) in
     (m.slots64, (m.counters17, refitted m _ _ c.tell.ensures (sound_took (plan_of m) (core_of m) (sound_of m) c.args.a c.cut.result f)))

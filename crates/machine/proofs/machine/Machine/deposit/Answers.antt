@@ -5,7 +5,7 @@ use Rattle.machine.proofs.machine.Machine.deposit.Goals as goal
 
 pub returns : goal.returns
 returns g c =
-    let e = c.write-within.ensures in
+    let e = c.write_within.ensures in
     record {
       after = e.after;
       answer = e.answer;

@@ -15,10 +15,10 @@ invariant_of-self g c =
     let p = plan_of m in
     let d = core_of m in
     let a = c.args in
-    let n = c.reading-of-reading.result in
+    let n = c.reading_of-reading.result in
     let x : Counter = record { reading = n; out = true } in
-    let l = lend_passed p d a.counter a.register a.base a.size a.level c.in_ok-lend-check.ensures in
-    let s = sound_lent_at p d a.counter a.register a.base a.size a.level n c.unwrap-or.result (sound_of m) l c.reading-of-reading.ensures (c.unwrap-or.ensures ∙ ap (λ o. unwrap_or o Nothing) c.named.ensures) in (
+    let l = lend_passed p d a.counter a.register a.base a.size a.level c.in_ok-lend_check.ensures in
+    let s = sound_lent_at p d a.counter a.register a.base a.size a.level n c.unwrap_or.result (sound_of m) l c.reading_of-reading.ensures (c.unwrap_or.ensures ∙ ap (λ o. unwrap_or o Nothing) c.named.ensures) in (
       m.slots64,
       (
         length-set m.counters a.counter _ ∙ m.counters17,

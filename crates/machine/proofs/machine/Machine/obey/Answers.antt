@@ -5,7 +5,7 @@ use Rattle.machine.proofs.machine.Machine.obey.Goals as goal
 
 pub returns : goal.returns
 returns g c =
-    let e = c.decode-and-follow.ensures in
+    let e = c.decode_and_follow.ensures in
     record {
       after = e.after;
       answer = e.answer;

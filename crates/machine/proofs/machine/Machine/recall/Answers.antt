@@ -7,7 +7,7 @@ use Rattle.machine.proofs.machine.Machine.recall.Goals as goal
 
 pub returns : goal.returns
 returns g c = record {
-  after = c.take-back.ensures.after;
-  answer = c.take-back.ensures.answer;
-  dead = λ e. dead (model g.M.Memory.bytes c.take-back.new.self) c.args.slip.counter c.args.slip.reading (omega (arith, c.take-back.ensures.past e));
+  after = c.take_back.ensures.after;
+  answer = c.take_back.ensures.answer;
+  dead = λ e. dead (model g.M.Memory.bytes c.take_back.new.self) c.args.slip.counter c.args.slip.reading (omega (arith, c.take_back.ensures.past e));
 }

@@ -8,6 +8,6 @@ use Rattle.machine.proofs.machine.Machine.seal.Goals as goal
 
 pub invariant_of-result : goal.invariant_of-result
 invariant_of-result g c =
-    let p = planned c.into-plan.result in
-    let s = subst (λ (e : EngineState). Sound p (run e started)) (sym c.new.ensures) (sound_start p (ap (has_bit 4) c.into-plan.result.first.1)) in
+    let p = planned c.into_plan.result in
+    let s = subst (λ (e : EngineState). Sound p (run e started)) (sym c.new.ensures) (sound_start p (ap (has_bit 4) c.into_plan.result.first.1)) in
     (refl, (refl, (s.0, (s.1, (s.2, (s.3, (s.4, (s.5, (s.6, tt)))))))))

@@ -19,6 +19,6 @@ loop-i-preserved c =
 
 pub returns : goal.returns
 returns c =
-    ap (λ b. cond b (Some c.loop-i.fields) None) (flip c.is-none.result _ c.is-none.ensures)
-    ∙ filled_all (length c.args.fields.now) c.loop-i.i c.loop-i.fields c.next-word-2.result _ _ (sym c.loop-i.auto.fields) c.loop-i-test.false c.next-word-2.ensures.word
+    ap (λ b. cond b (Some c.loop-i.fields) None) (flip c.is_none.result _ c.is_none.ensures)
+    ∙ filled_all (length c.args.fields.now) c.loop-i.i c.loop-i.fields c.next_word-2.result _ _ (sym c.loop-i.auto.fields) c.loop-i-test.false c.next_word-2.ensures.word
     ∙ c.loop-i.invariant

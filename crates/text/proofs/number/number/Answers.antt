@@ -5,8 +5,8 @@ use Rattle.text.proofs.Numbering.{writes}
 use Rattle.text.proofs.number.number.Goals as goal
 use Rattle.text.proofs.number.number.Goals.{else-word-gt1-via-then-word-gt1+else-word-eq48, else-word-gt1-via-else-word-gt1}
 
-pub returns-then-is-empty : goal.returns-then-is-empty
-returns-then-is-empty c =
+pub returns-then-is_empty : goal.returns-then-is_empty
+returns-then-is_empty c =
     let v : None ≡ number_of c.args.word.now = grind (arith, nat_tests) in
     record { value = v; exact = writes c.args.word.now _ v }
 

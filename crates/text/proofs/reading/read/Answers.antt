@@ -4,4 +4,4 @@ use Rattle.text.proofs.Refusing.{earliest, long}
 use Rattle.text.proofs.reading.read.Goals as goal
 
 pub returns : goal.returns
-returns c = record { value = c.read-text.ensures; exact = exact; once = once; earliest = earliest; long = long }
+returns c = record { value = c.read_text.ensures; exact = exact; once = once; earliest = earliest; long = long }

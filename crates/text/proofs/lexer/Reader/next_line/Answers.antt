@@ -4,8 +4,8 @@ use Rattle.text.specs.Splitting.{lines_of}
 use Rattle.text.proofs.Cutting.{line_left, line_taken}
 use Rattle.text.proofs.lexer.Reader.next_line.Goals as goal
 
-pub returns-then-is-empty : goal.returns-then-is-empty
-returns-then-is-empty c =
+pub returns-then-is_empty : goal.returns-then-is_empty
+returns-then-is_empty c =
     let xs = c.args.self.now.rest.now in
     record { token = ap lines_of (nil_from_length xs (search rules)); stands = search rules; place = search rules; left = search rules; line = search rules }
 

@@ -7,19 +7,19 @@ use Rattle.text.proofs.sheet.Sheet.row.Goals as goal
 
 pub returns-in-Pages : goal.returns-in-Pages
 returns-in-Pages c =
-    stays c.args.section Pages c.in-Pages.is _ c.requires.1 _ _ _ _ refl c.page-row.ensures.answer c.page-row.ensures.after
+    stays c.args.section Pages c.in-Pages.is _ c.requires.1 _ _ _ _ refl c.page_row.ensures.answer c.page_row.ensures.after
 
 pub returns-in-Entries : goal.returns-in-Entries
 returns-in-Entries c =
-    stays c.args.section Entries c.in-Entries.is _ c.requires.1 _ _ _ _ refl c.entry-row.ensures.answer c.entry-row.ensures.after
+    stays c.args.section Entries c.in-Entries.is _ c.requires.1 _ _ _ _ refl c.entry_row.ensures.answer c.entry_row.ensures.after
 
 pub returns-in-Counters : goal.returns-in-Counters
 returns-in-Counters c =
-    stays c.args.section Counters c.in-Counters.is _ c.requires.1 _ _ _ _ refl c.counter-row.ensures.answer c.counter-row.ensures.after
+    stays c.args.section Counters c.in-Counters.is _ c.requires.1 _ _ _ _ refl c.counter_row.ensures.answer c.counter_row.ensures.after
 
 pub returns-in-Trace : goal.returns-in-Trace
 returns-in-Trace c =
-    IfOk-weaker c.record-row.result _ _ (λ a p. stays c.args.section Trace c.in-Trace.is _ c.requires.1 _ _ _ a refl p.0 p.1) c.record-row.ensures
+    IfOk-weaker c.record_row.result _ _ (λ a p. stays c.args.section Trace c.in-Trace.is _ c.requires.1 _ _ _ a refl p.0 p.1) c.record_row.ensures
 
 pub returns-in-Err : goal.returns-in-Err
 returns-in-Err c =

@@ -6,25 +6,16 @@ use Rattle.machine.proofs.engine.Engine.enter.Goals as goal
 
 pub invariant_of-self : goal.invariant_of-self
 invariant_of-self c =
-    let s = c.args.self.now in (
-      s.values8,
-      (
-        length-set s.frames s.depth _ ∙ s.frames32,
-        (
-          s.stack64,
-          (
-            omega arith,
-            (
-              s.low,
-              (
-                call_climbs s.frames s.depth (record { place = s.place + 4; floor = s.floor }) s.height (omega arith) s.rising,
-                (call_bottom s.frames s.depth (record { place = s.place + 4; floor = s.floor }) s.height (omega arith) s.bottom, tt),
-              ),
-            ),
-          ),
-        ),
-      ),
-    )
+    let s = c.args.self.now in
+    record {
+      values8 = s.values8;
+      frames32 = length-set s.frames s.depth _ ∙ s.frames32;
+      stack64 = s.stack64;
+      shallow = omega arith;
+      low = s.low;
+      rising = call_climbs s.frames s.depth (record { place = s.place + 4; floor = s.floor }) s.height (omega arith) s.rising;
+      bottom = call_bottom s.frames s.depth (record { place = s.place + 4; floor = s.floor }) s.height (omega arith) s.bottom;
+    }
 
 pub returns : goal.returns
 returns c =

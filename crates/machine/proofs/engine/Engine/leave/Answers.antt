@@ -10,25 +10,16 @@ use Rattle.machine.proofs.engine.Engine.leave.Goals as goal
 pub invariant_of-self : goal.invariant_of-self
 invariant_of-self c =
     let s = c.args.self.now in
-    let f = floor-below (take s.depth s.frames) s.floor s.height s.rising in (
-      s.values8,
-      (
-        s.frames32,
-        (
-          s.stack64,
-          (
-            omega arith,
-            (
-              omega arith,
-              (
-                return_climbs s.frames s.depth s.floor s.height c.requires (omega arith) s.rising,
-                (return_bottom s.frames s.depth s.floor s.height c.requires (omega arith) s.bottom, tt),
-              ),
-            ),
-          ),
-        ),
-      ),
-    )
+    let f = floor-below (take s.depth s.frames) s.floor s.height s.rising in
+    record {
+      values8 = s.values8;
+      frames32 = s.frames32;
+      stack64 = s.stack64;
+      shallow = omega arith;
+      low = omega arith;
+      rising = return_climbs s.frames s.depth s.floor s.height c.requires (omega arith) s.rising;
+      bottom = return_bottom s.frames s.depth s.floor s.height c.requires (omega arith) s.bottom;
+    }
 
 pub returns : goal.returns
 returns c =

@@ -7,25 +7,16 @@ pub invariant_of-self : goal.invariant_of-self
 invariant_of-self c =
     let s = c.args.self.now in
     let fs = take s.depth s.frames in
-    let f = floor-below fs s.floor s.height s.rising in (
-      s.values8,
-      (
-        s.frames32,
-        (
-          length-set s.stack s.height _ ∙ s.stack64,
-          (
-            s.shallow,
-            (
-              omega arith,
-              (
-                climbs-height fs s.floor s.height (s.height + 1) (omega arith) s.rising,
-                (head_height fs s.floor (s.height + 1) s.height ∙ s.bottom, tt),
-              ),
-            ),
-          ),
-        ),
-      ),
-    )
+    let f = floor-below fs s.floor s.height s.rising in
+    record {
+      values8 = s.values8;
+      frames32 = s.frames32;
+      stack64 = length-set s.stack s.height _ ∙ s.stack64;
+      shallow = s.shallow;
+      low = omega arith;
+      rising = climbs-height fs s.floor s.height (s.height + 1) (omega arith) s.rising;
+      bottom = head_height fs s.floor (s.height + 1) s.height ∙ s.bottom;
+    }
 
 pub returns : goal.returns
 returns c =

@@ -6,7 +6,7 @@ use Rattle.machine.specs.Model.{core_of, plan_of}
 use Rattle.machine.specs.Sound.{Sound}
 use Rattle.machine.specs.State.{EngineState, counted, run}
 use Rattle.machine.proofs.Lending.{lend_passed, sound_lent_at}
-use Rattle.machine.proofs.Machines.{facts, sound_of}
+use Rattle.machine.proofs.Machines.{sound_of}
 use Rattle.machine.proofs.machine.Machine.lend.Goals as goal
 
 pub invariant_of-self : goal.invariant_of-self
@@ -18,10 +18,16 @@ invariant_of-self g c =
     let n = c.reading_of-reading.result in
     let x : Counter = record { reading = n; out = true } in
     let l = lend_passed p d a.counter a.register a.base a.size a.level c.in_ok-lend_check.ensures in
-    let s = sound_lent_at p d a.counter a.register a.base a.size a.level n c.unwrap_or.result (sound_of m) l c.reading_of-reading.ensures (c.unwrap_or.ensures ∙ ap (λ o. unwrap_or o Nothing) c.named.ensures) in (
-      m.slots64,
-      (
-        length-set m.counters a.counter _ ∙ m.counters17,
-        facts p (run (engine_of c.tell.new.self) (counted a.counter x d)) (subst (λ (e : EngineState). Sound p (run e (counted a.counter x d))) (sym c.tell.ensures) s),
-      ),
-    )
+    let s = sound_lent_at p d a.counter a.register a.base a.size a.level n c.unwrap_or.result (sound_of m) l c.reading_of-reading.ensures (c.unwrap_or.ensures ∙ ap (λ o. unwrap_or o Nothing) c.named.ensures) in
+    let f : Sound p (run (engine_of c.tell.new.self) (counted a.counter x d)) = subst (λ (e : EngineState). Sound p (run e (counted a.counter x d))) (sym c.tell.ensures) s in
+    record {
+      slots64 = m.slots64;
+      counters17 = length-set m.counters a.counter _ ∙ m.counters17;
+      grounded = f.0;
+      returns = f.1;
+      registers_fine = f.2;
+      stack_fine = f.3;
+      slots_fine = f.4;
+      slots_last = f.5;
+      settled = f.6;
+    }

@@ -1,18 +1,28 @@
 use Rattle.std.proofs.Common.{◌≡◌, set, sym, ap, ◌∙◌, length-set, rules}
 use Rattle.std.proofs.lemmas.List.{set_past}
 use Rattle.machine.specs.Model.{core_of, plan_of}
+use Rattle.machine.specs.Sound.{Sound}
 use Rattle.machine.specs.State.{slotted}
 use Rattle.machine.proofs.Bounds.{past}
-use Rattle.machine.proofs.Machines.{facts, sound_of}
+use Rattle.machine.proofs.Machines.{sound_of}
 use Rattle.machine.proofs.Sounds.{sound_slotted}
 use Rattle.machine.proofs.machine.Machine.put_slot.Goals as goal
 
 pub invariant_of-self : goal.invariant_of-self
 invariant_of-self g c =
-    let m = c.args.self.now in (
-      length-set m.slots c.args.slot _ ∙ m.slots64,
-      (m.counters17, facts (plan_of m) (slotted c.args.slot c.args.held (core_of m)) (sound_slotted (plan_of m) (core_of m) (sound_of m) c.args.slot c.args.held c.requires.fine c.requires.lasting)),
-    )
+    let m = c.args.self.now in
+    let f : Sound (plan_of m) (slotted c.args.slot c.args.held (core_of m)) = sound_slotted (plan_of m) (core_of m) (sound_of m) c.args.slot c.args.held c.requires.fine c.requires.lasting in
+    record {
+      slots64 = length-set m.slots c.args.slot _ ∙ m.slots64;
+      counters17 = m.counters17;
+      grounded = f.0;
+      returns = f.1;
+      registers_fine = f.2;
+      stack_fine = f.3;
+      slots_fine = f.4;
+      slots_last = f.5;
+      settled = f.6;
+    }
 
 pub returns-else-slot-lt64 : goal.returns-else-slot-lt64
 returns-else-slot-lt64 g c =

@@ -2,10 +2,11 @@ use Rattle.std.proofs.Common.{◌≡◌, ◌/◌, ◌<◌, eqb, ltb, get_or, sym
 use Rattle.capability.specs.Holdings.{fresh}
 use Rattle.fault.specs.declared.refusal.Refusal.TheVariants.{CounterSpent, NotOwner}
 use Rattle.machine.specs.Model.{core_of, plan_of}
+use Rattle.machine.specs.Sound.{Sound}
 use Rattle.machine.specs.Rules.{raised_counter}
 use Rattle.machine.specs.State.{counted, tag_now}
 use Rattle.machine.proofs.Fines.{settled-raised}
-use Rattle.machine.proofs.Machines.{facts, sound_of}
+use Rattle.machine.proofs.Machines.{sound_of}
 use Rattle.machine.proofs.Passing.{demand_passed}
 use Rattle.machine.proofs.Sounds.{sound_counted}
 use Rattle.plan.specs.Tables.{owner_of}
@@ -24,4 +25,15 @@ invariant_of-self g c =
     let tagged = (m.plan.proper (m.engine.place / 256)).2 m.grounded.2 in
     let owned : 0 < owner_of p k = omega (arith, same, c.owner.ensures, c.tag.ensures, tagged) in
     let x = raised_counter old in
-    (m.slots64, (length-set m.counters k _ ∙ m.counters17, facts p (counted k x d) (sound_counted p d (sound_of m) k x (omega arith) (settled-raised (owner_of p k) old owned (m.settled k) low))))
+    let f : Sound p (counted k x d) = sound_counted p d (sound_of m) k x (omega arith) (settled-raised (owner_of p k) old owned (m.settled k) low) in
+    record {
+      slots64 = m.slots64;
+      counters17 = length-set m.counters k _ ∙ m.counters17;
+      grounded = f.0;
+      returns = f.1;
+      registers_fine = f.2;
+      stack_fine = f.3;
+      slots_fine = f.4;
+      slots_last = f.5;
+      settled = f.6;
+    }

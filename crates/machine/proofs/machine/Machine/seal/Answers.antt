@@ -10,4 +10,14 @@ pub invariant_of-result : goal.invariant_of-result
 invariant_of-result g c =
     let p = planned c.into_plan.result in
     let s = subst (λ (e : EngineState). Sound p (run e started)) (sym c.new.ensures) (sound_start p (ap (has_bit 4) c.into_plan.result.first.1)) in
-    (refl, (refl, (s.0, (s.1, (s.2, (s.3, (s.4, (s.5, (s.6, tt)))))))))
+    record {
+      slots64 = refl;
+      counters17 = refl;
+      grounded = s.0;
+      returns = s.1;
+      registers_fine = s.2;
+      stack_fine = s.3;
+      slots_fine = s.4;
+      slots_last = s.5;
+      settled = s.6;
+    }

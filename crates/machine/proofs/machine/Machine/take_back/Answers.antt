@@ -2,10 +2,10 @@ use Rattle.std.proofs.Common.{◌≡◌, ◌+◌, false, get_or, sym, ap, ◌∙
 use Rattle.capability.specs.Holdings.{fresh}
 use Rattle.capability.specs.declared.counter.Counter.{Counter}
 use Rattle.machine.specs.Model.{core_of, plan_of}
-use Rattle.machine.specs.Sound.{settled}
+use Rattle.machine.specs.Sound.{Sound, settled}
 use Rattle.machine.specs.State.{counted}
 use Rattle.machine.proofs.Lending.{settled_recalled}
-use Rattle.machine.proofs.Machines.{facts, sound_of}
+use Rattle.machine.proofs.Machines.{sound_of}
 use Rattle.machine.proofs.Sounds.{sound_counted}
 use Rattle.plan.specs.Tables.{owner_of}
 use Rattle.std.proofs.lemmas.Bool.{not-false}
@@ -20,4 +20,15 @@ invariant_of-self g c =
     let e = c.if-old-reading.false in
     let x : Counter = record { reading = c.args.reading + 1; out = false } in
     let s = ap (λ n. settled (owner_of p k) (record { reading = n + 1; out = false })) (sym e) ∙ settled_recalled (owner_of p k) old (m.settled k) (not-false old.out c.if-not-old.false) in
-    (m.slots64, (length-set m.counters k _ ∙ m.counters17, facts p (counted k x (core_of m)) (sound_counted p (core_of m) (sound_of m) k x (omega (arith, e)) s)))
+    let f : Sound p (counted k x (core_of m)) = sound_counted p (core_of m) (sound_of m) k x (omega (arith, e)) s in
+    record {
+      slots64 = m.slots64;
+      counters17 = length-set m.counters k _ ∙ m.counters17;
+      grounded = f.0;
+      returns = f.1;
+      registers_fine = f.2;
+      stack_fine = f.3;
+      slots_fine = f.4;
+      slots_last = f.5;
+      settled = f.6;
+    }

@@ -22,7 +22,7 @@ fn run_over<M: Memory + Drop>(
     memory: M,
     records: &[Record],
 ) -> Result<(), AllocError>
-    ensures { OnOk result (string_bytes out.new ≡ string_bytes out.old ++ rows_from (record { plan = (drafted draft).plan; core = started; bytes = bytes memory }) 1 records.now) }
+    ensures { OnOk result (string_bytes out.new ≡ string_bytes out.old ++ rows_from (record { plan = (drafted draft).plan; core = started; bytes = M.bytes memory }) 1 records.now) }
 {
     let mut machine = Machine::seal(draft, memory);
     trace(out, &mut machine, records)

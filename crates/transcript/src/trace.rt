@@ -35,8 +35,8 @@ fn trace_one<M: Memory>(
     line: usize,
     r: &Record,
 ) -> Result<(), AllocError>
-    ensures after { model bytes machine.new ≡ step (model bytes machine.old) (obey (encoded r.now)) }
-    ensures printed { OnOk result (string_bytes out.new ≡ string_bytes out.old ++ answer_row line (answer (model bytes machine.old) (obey (encoded r.now)))) }
+    ensures after { model M.bytes machine.new ≡ step (model M.bytes machine.old) (obey (encoded r.now)) }
+    ensures printed { OnOk result (string_bytes out.new ≡ string_bytes out.old ++ answer_row line (answer (model M.bytes machine.old) (obey (encoded r.now)))) }
 {
     let word = encode(r);
     let said = machine.obey(&word);
@@ -49,7 +49,7 @@ pub(crate) fn trace<M: Memory>(
     machine: &mut Machine<M>,
     records: &[Record],
 ) -> Result<(), AllocError>
-    ensures { OnOk result (string_bytes out.new ≡ string_bytes out.old ++ rows_from (model bytes machine.old) 1 records.now) }
+    ensures { OnOk result (string_bytes out.new ≡ string_bytes out.old ++ rows_from (model M.bytes machine.old) 1 records.now) }
 {
     for (i, r) in records.iter().enumerate() {
         trace_one(out, machine, i + 1, r)?;

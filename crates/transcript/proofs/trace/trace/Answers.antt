@@ -5,8 +5,8 @@ use Rattle.transcript.proofs.trace.trace.Goals as goal
 
 pub loop-i-preserved : goal.loop-i-preserved
 loop-i-preserved g c =
-    row_more (model g.M.Memory.bytes c.loop-i.machine) (model g.M.Memory.bytes c.trace-one.new.machine) c.loop-i.i c.args.records.now (string_bytes c.loop-i.out) (string_bytes c.trace-one.new.out) _ c.loop-i-test.true
-    c.trace-one.ensures.after c.in_ok-trace-one.ensures.printed c.loop-i.invariant
+    row_more (model g.M.Memory.bytes c.loop-i.machine) (model g.M.Memory.bytes c.trace_one.new.machine) c.loop-i.i c.args.records.now (string_bytes c.loop-i.out) (string_bytes c.trace_one.new.out) _ c.loop-i-test.true
+    c.trace_one.ensures.after c.in_ok-trace_one.ensures.printed c.loop-i.invariant
 
 pub returns : goal.returns
 returns g c =

@@ -1,5 +1,5 @@
 -- The ten marked examples. Assumes nothing.
-use Rattle.std.proofs.Common.{◌≡◌, ℕ, ◌+◌, ◌<◌, ◌≤◌, Bool, true, false, cond, eqb, ltb, List, [], ◌∷◌, get_or, Some, None, Ok, Err, Option, sym, refl, ap, ◌∙◌, arith}
+use Rattle.std.proofs.Common.{◌≡◌, ℕ, ◌+◌, ◌<◌, ◌≤◌, Bool, true, false, eqb, ltb, List, [], ◌∷◌, get_or, None, Ok, refl, ap, ◌∙◌, arith}
 use Rattle.capability.specs.Holdings.{fresh, level_over, raised, reading_of}
 use Rattle.capability.specs.declared.counter.Counter.{Counter}
 use Rattle.capability.specs.declared.holding.Holding.{Holding}
@@ -8,15 +8,14 @@ use Rattle.fault.specs.Levels.{higher_of, rank_of}
 use Rattle.fault.specs.declared.level.Level.{Level}
 use Rattle.fault.specs.declared.level.Level.TheVariants.{Nothing, Call, Read, Write}
 use Rattle.fault.specs.declared.refusal.Refusal.TheVariants.{AddressRange, CounterSpent, NotOwner}
-use Rattle.machine.specs.Actions.{Action, check, go, refuse}
-use Rattle.machine.specs.Checks.{Check, access_at, demand, entrance, judged, judgement, level_at, owned_by, unspent}
+use Rattle.machine.specs.Actions.{check, go, refuse}
+use Rattle.machine.specs.Checks.{access_at, demand, entrance, judged, level_at, owned_by, unspent}
 use Rattle.examples.specs.Marked.{Marked}
-use Rattle.machine.specs.Rules.{branch_rule, jump_rule, landing, raised_counter, revoke_rule, target}
+use Rattle.machine.specs.Rules.{branch_rule, landing, raised_counter, revoke_rule, target}
 use Rattle.machine.specs.State.{Core, counted, moved, on, place_of, tag_now, value}
 use Rattle.plan.specs.Chart.{entry_of, has_bit}
-use Rattle.plan.specs.Tables.{Planned, StartsFirst, decides, entry_at, level_for, owner_of, page_at, tag_at}
-use Rattle.plan.specs.declared.records.Page.{Page}
-use Rattle.std.proofs.lemmas.Bool.{cond_both, cond-false, cond-true, eq-eqb, le-ltb, lt-ltb, ltb-true}
+use Rattle.plan.specs.Tables.{Planned, StartsFirst, level_for, owner_of, page_at, tag_at}
+use Rattle.std.proofs.lemmas.Bool.{cond_both, cond-true, eq-eqb, le-ltb, lt-ltb, ltb-true}
 
 -- registers only raise a level
 higher_least : (x y : Level) → rank_of x ≤ rank_of (higher_of x y)

@@ -1,10 +1,10 @@
 -- Ten examples that hold of the rules. Assumes nothing.
-use Rattle.std.specs.Prelude.{◌≡◌, ℕ, ◌<◌, true, length, Err, slice_index_or}
+use Rattle.std.specs.Prelude.{◌≡◌, ℕ, true, Err, slice_index_or}
 use Rattle.capability.specs.Holdings.{fresh, reading_of, spans}
 use Rattle.fault.specs.Faults.{bare_fault}
 use Rattle.fault.specs.Refusals.{number_of}
 use Rattle.fault.specs.declared.refusal.Refusal.TheVariants.{AddressRange, BadSpan, CounterSpent}
-use Rattle.machine.specs.Actions.{Action, go, refuse}
+use Rattle.machine.specs.Actions.{go, refuse}
 use Rattle.machine.specs.Checks.{span_check}
 use Rattle.machine.specs.Rules.{branch_rule, revoke_rule}
 use Rattle.machine.specs.State.{Core, counted, moved, on, place_of, tag_now, value}

@@ -1,18 +1,18 @@
 -- The capabilities that MAKE and CUT write are fine, and so is a counter that REVOKE raises. Assumes nothing.
-use Rattle.std.proofs.Common.{◌≡◌, ℕ, ◌+◌, ◌<◌, ◌≤◌, Bool, true, false, cond, not, ◌&&◌, ◌||◌, eqb, ltb, leb, List, get_or, Some, None, Ok, Err, Option, sym, refl, ap, ◌∙◌, ⊎_elim, arith}
-use Rattle.capability.specs.Holdings.{fresh, reading_of, spans}
+use Rattle.std.proofs.Common.{◌≡◌, ℕ, ◌+◌, ◌<◌, ◌≤◌, true, cond, not, ◌&&◌, ◌||◌, eqb, ltb, leb, List, Some, None, Ok, Option, refl, ap, ◌∙◌, ⊎_elim, arith}
+use Rattle.capability.specs.Holdings.{reading_of, spans}
 use Rattle.capability.specs.declared.counter.Counter.{Counter}
 use Rattle.capability.specs.declared.holding.Holding.{Holding}
 use Rattle.capability.specs.declared.holding.Holding.TheVariants.{Empty, Short, Counted}
 use Rattle.capability.specs.declared.right.Right.{Right}
 use Rattle.fault.specs.Levels.{rank_of}
-use Rattle.fault.specs.declared.refusal.Refusal.TheVariants.{BadSpan, CounterSpent, NotOwner}
-use Rattle.machine.specs.Checks.{Check, and_then, owned_by, unspent}
+use Rattle.fault.specs.declared.refusal.Refusal.TheVariants.{CounterSpent}
+use Rattle.machine.specs.Checks.{and_then, owned_by, unspent}
 use Rattle.machine.specs.Rules.{content, cut, life_check, made}
 use Rattle.machine.specs.Sound.{Fine, fine, formed, settled}
 use Rattle.machine.specs.State.{Core, depth, tag_now}
 use Rattle.plan.specs.Tables.{Planned}
-use Rattle.std.proofs.lemmas.Bool.{and_from, and_parts, both_ways, cases_Bool, cases_eq, cond-false, eq-eqb, eqb-true, le-leb, lt-ltb, ltb-true, leb-true, ne_eqb, or_cases}
+use Rattle.std.proofs.lemmas.Bool.{and_from, and_parts, cases_eq, cond-false, eq-eqb, eqb-true, le-leb, lt-ltb, ltb-true, ne_eqb, or_cases}
 use Rattle.machine.proofs.Passing.{both_passed, demand_passed}
 
 positive : (k : ℕ) → (k ≡ 0 → ⊥) → 0 < k

@@ -1,7 +1,7 @@
 -- Every call refuses truthfully, and no counter ever falls. Assumes nothing.
-use Rattle.std.proofs.Common.{◌≡◌, ℕ, ◌+◌, ◌-◌, ◌*◌, ◌/◌, ◌%◌, ◌≤◌, max, Bool, true, false, cond, not, ◌||◌, eqb, ltb, leb, List, [], ◌∷◌, ◌++◌, length, get_or, take, Some, None, Ok, Err, Option, Result, sym, refl, ap, ◌∙◌, arith}
+use Rattle.std.proofs.Common.{◌≡◌, ℕ, ◌+◌, ◌-◌, ◌*◌, ◌/◌, ◌%◌, ◌≤◌, max, Bool, true, false, cond, not, ◌||◌, eqb, ltb, leb, List, [], ◌∷◌, ◌++◌, length, get_or, take, Some, None, Ok, Err, Option, sym, refl, arith}
 use Rattle.capability.specs.Holdings.{empty, fresh, granted, reading_of, spans}
-use Rattle.capability.specs.declared.holding.Event.TheVariants.{Dropped, Took}
+use Rattle.capability.specs.declared.holding.Event.TheVariants.{Took}
 use Rattle.capability.specs.declared.holding.Holding.{Holding}
 use Rattle.capability.specs.declared.right.Right.{Right}
 use Rattle.fault.specs.Faults.{access_fault, bare_fault}
@@ -9,22 +9,21 @@ use Rattle.fault.specs.Levels.{rank_of}
 use Rattle.fault.specs.declared.level.Level.{Level}
 use Rattle.fault.specs.declared.level.Level.TheVariants.{Nothing, Call as ForCall, Read, Write}
 use Rattle.fault.specs.declared.refusal.Refusal.{Refusal}
-use Rattle.fault.specs.declared.refusal.Refusal.TheVariants.{RecordLength, UnknownCode, FieldRange, PageEnd, AddressRange, Misaligned, WrongPageKind, MissingBit, LevelTooLow, NotADoor, StackFull, StackEmpty, BadSpan, DeadSource, ShortLife, NotOwner, NotPrivileged, CounterSpent}
-use Rattle.fault.specs.declared.report.Access.{Access}
+use Rattle.fault.specs.declared.refusal.Refusal.TheVariants.{RecordLength, UnknownCode, FieldRange, PageEnd, AddressRange, Misaligned, WrongPageKind, LevelTooLow, StackFull, StackEmpty, BadSpan, DeadSource, ShortLife, NotOwner, NotPrivileged, CounterSpent}
 use Rattle.instruction.specs.Decoding.{fitting, number, op_of, shaped}
 use Rattle.instruction.specs.declared.decode.Decoded.{Decoded}
 use Rattle.instruction.specs.declared.op.Op.{Op}
 use Rattle.instruction.specs.declared.op.Op.TheVariants.{Set, Add, Load, Store, Jump, Call, Return, Branch, Make, Cut, Drop, Push, Pop, Keep, Fetch, Revoke, Panel}
 use Rattle.machine.specs.Actions.{Action, check, go, read_byte, refuse, write_byte}
 use Rattle.machine.specs.Checks.{Check, above_floor, access_at, addressed, aligned, and_then, byte_check, demand, entrance, frame_room, frame_there, is_short, judged, judgement, lasts, level_at, owned_by, privileged, slot_check, span_check, stack_room, unspent}
-use Rattle.machine.specs.Host.{counter_at, deposit_rule, due, kind_check, recall_rule}
-use Rattle.machine.specs.Rules.{called_engine, content, cut, cut_from, kept, landing, leaves, life_check, list_check, list_judged, lowest_below, made, make_check, obey_decoded, pages_touched, part_check, raised_counter, returned_engine, right_of, room_check, row, sum, target, wanted, within}
+use Rattle.machine.specs.Host.{counter_at, due, kind_check}
+use Rattle.machine.specs.Rules.{called_engine, content, cut, cut_from, kept, landing, leaves, life_check, list_check, list_judged, lowest_below, made, make_check, obey_decoded, pages_touched, part_check, raised_counter, returned_engine, right_of, room_check, row, target, wanted, within}
 use Rattle.machine.specs.Runs.{Call as RunCall, action, deposit, obey, recall}
-use Rattle.machine.specs.State.{Core, State, counted, depth, height, holding, moved, on, place_of, run, shown, stacked, tag_now, told, value, valued}
-use Rattle.machine.specs.Telling.{CauseTrue, Told, access, bare, kind_for}
+use Rattle.machine.specs.State.{Core, State, counted, depth, height, holding, moved, on, place_of, run, shown, stacked, tag_now, told, value}
+use Rattle.machine.specs.Telling.{Told, access, bare, kind_for}
 use Rattle.machine.proofs.Sounds.{rises}
 use Rattle.plan.specs.Chart.{access_of, decision, entry_of, has_bit}
-use Rattle.plan.specs.Tables.{Planned, decides, entry_at, level_for, owner_of, page_at, slot_at, tag_at}
+use Rattle.plan.specs.Tables.{decides, entry_at, level_for, owner_of, page_at, slot_at, tag_at}
 use Rattle.plan.specs.declared.chart.Question.{Question}
 use Rattle.plan.specs.declared.chart.Question.TheVariants.{Load as AskLoad, Store as AskStore, Fetch as AskFetch, Keep as AskKeep, Door, Elsewhere}
 use Rattle.std.proofs.lemmas.Bool.{and_parts, eqb-true}

@@ -1,21 +1,18 @@
 -- The laws that public calls name: a refusal leaves everything and tells the truth; what was recalled stays dead. Assumes nothing.
-use Rattle.std.proofs.Common.{◌≡◌, ℕ, ◌+◌, ◌<◌, ◌≤◌, Bool, true, false, cond, eqb, ltb, List, [], ◌∷◌, length, get_or, Some, None, Ok, Err, Result, sym, refl, ap, ◌∙◌, subst, arith}
-use Rattle.capability.specs.Holdings.{granted, reading_of}
-use Rattle.capability.specs.declared.counter.Counter.{Counter}
-use Rattle.capability.specs.declared.holding.Holding.TheVariants.{Counted}
-use Rattle.capability.specs.declared.right.Right.{Right}
+use Rattle.std.proofs.Common.{◌≡◌, ℕ, ◌+◌, ◌<◌, ◌≤◌, Bool, true, false, cond, ltb, List, [], ◌∷◌, length, get_or, Ok, Err, Result, sym, refl, subst, arith}
+use Rattle.capability.specs.Holdings.{reading_of}
 use Rattle.fault.specs.declared.report.Fault.{Fault}
-use Rattle.machine.specs.Actions.{Action, Outcome, after_read, after_write, answer_of, go, read_byte, refuse, said, state_of, stepped, told_at, write_byte}
+use Rattle.machine.specs.Actions.{Action, after_read, after_write, answer_of, go, read_byte, refuse, said, state_of, stepped, told_at, write_byte}
 use Rattle.machine.specs.Checks.{Check}
 use Rattle.machine.specs.Host.{lend_check, lend_core, lent}
 use Rattle.machine.specs.Runs.{Call, Dead, Move, action, after_moves, answer, call, lend, move_on, step}
 use Rattle.machine.specs.State.{Core, State, place_of}
-use Rattle.machine.specs.Telling.{Refuses, Told}
+use Rattle.machine.specs.Telling.{Refuses}
 use Rattle.machine.specs.declared.answer.Done.{Done}
 use Rattle.machine.proofs.Lawful.{Above, Lawful, lawful}
 use Rattle.machine.proofs.Sounds.{rises}
 use Rattle.memory.specs.Meaning.{outside}
-use Rattle.std.proofs.lemmas.Bool.{cases_Bool, cond-false, ltb-false, ne_eqb}
+use Rattle.std.proofs.lemmas.Bool.{cond-false, ltb-false, ne_eqb}
 
 -- the memory's own refusal, by whether the address lies within
 read_refuses : (s : State) (a r : ℕ) (d : Core) (b : Bool) → ltb a (length s.bytes) ≡ b → let o = after_read r d s.bytes (told_at (place_of s.core) (cond b (Ok (get_or s.bytes a 0)) (Err (outside a (length s.bytes))))) in Refuses s (state_of s o) (answer_of o)

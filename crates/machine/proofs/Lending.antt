@@ -1,6 +1,6 @@
 -- What LEND's checks show, and what LEND and RECALL leave settled. Assumes nothing.
-use Rattle.std.proofs.Common.{◌≡◌, ℕ, ◌+◌, ◌<◌, ◌≤◌, Bool, true, false, cond, not, ◌&&◌, ◌||◌, eqb, ltb, leb, set, is_some, Some, None, Ok, Err, Option, unwrap_or, sym, refl, ap, ◌∙◌, subst, ⊎_elim, arith}
-use Rattle.capability.specs.Holdings.{fresh, reading_of, spans}
+use Rattle.std.proofs.Common.{◌≡◌, ℕ, ◌+◌, ◌<◌, ◌≤◌, Bool, true, false, cond, not, ◌&&◌, eqb, ltb, leb, is_some, Some, None, Ok, unwrap_or, sym, refl, ap, subst, ⊎_elim, arith}
+use Rattle.capability.specs.Holdings.{reading_of, spans}
 use Rattle.capability.specs.declared.counter.Counter.{Counter}
 use Rattle.capability.specs.declared.holding.Event.TheVariants.{Took}
 use Rattle.capability.specs.declared.holding.Holding.TheVariants.{Counted}
@@ -9,10 +9,10 @@ use Rattle.fault.specs.Levels.{level_named, rank_of}
 use Rattle.fault.specs.declared.level.Level.{Level}
 use Rattle.fault.specs.declared.level.Level.TheVariants.{Nothing, Call, Read, Write}
 use Rattle.fault.specs.declared.refusal.Refusal.TheVariants.{BadSpan, CounterOut, CounterSpent, FieldRange, NotOwner}
-use Rattle.machine.specs.Checks.{Check, and_then, demand, owned_by, span_check, unspent}
-use Rattle.machine.specs.Host.{counter_at, due, lend_check, lent, loan}
+use Rattle.machine.specs.Checks.{and_then, demand, owned_by, span_check, unspent}
+use Rattle.machine.specs.Host.{counter_at, lend_check, lent, loan}
 use Rattle.machine.specs.Rules.{right_of}
-use Rattle.machine.specs.Sound.{Sound, fine, settled}
+use Rattle.machine.specs.Sound.{Sound, settled}
 use Rattle.machine.specs.State.{Core, counted, told}
 use Rattle.machine.proofs.Fines.{fine-counted, formed-right}
 use Rattle.machine.proofs.Passing.{both_passed, demand_passed}

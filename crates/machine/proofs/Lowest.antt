@@ -1,5 +1,5 @@
 -- One page more of those that MAKE judges. Assumes nothing.
-use Rattle.std.proofs.Common.{◌≡◌, ℕ, suc, ◌+◌, ◌-◌, ◌*◌, ◌<◌, ◌≤◌, true, false, cond, ltb, Some, ap, ◌∙◌, arith}
+use Rattle.std.proofs.Common.{◌≡◌, ℕ, suc, ◌+◌, ◌-◌, ◌*◌, ◌<◌, ◌≤◌, cond, ltb, Some, ap, ◌∙◌, arith}
 use Rattle.fault.specs.Levels.{rank_of}
 use Rattle.fault.specs.declared.level.Level.{Level}
 use Rattle.machine.specs.Rules.{lowest_below}

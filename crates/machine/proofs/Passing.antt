@@ -1,10 +1,9 @@
 -- What a check that passed shows. Assumes nothing.
-use Rattle.std.proofs.Common.{◌≡◌, ℕ, ◌%◌, ◌<◌, ◌≤◌, Bool, true, false, cond, not, ◌||◌, eqb, ltb, leb, Some, None, Ok, Err, Option, sym, refl, ap, ◌∙◌, arith}
+use Rattle.std.proofs.Common.{◌≡◌, ℕ, ◌%◌, Bool, true, false, cond, eqb, ltb, Some, None, Ok, Err, Option, refl, arith}
 use Rattle.fault.specs.Faults.{access_fault, bare_fault}
-use Rattle.fault.specs.Levels.{rank_of}
 use Rattle.fault.specs.declared.level.Level.{Level}
 use Rattle.fault.specs.declared.refusal.Refusal.{Refusal}
-use Rattle.fault.specs.declared.refusal.Refusal.TheVariants.{AddressRange, Misaligned, LevelTooLow, MissingBit}
+use Rattle.fault.specs.declared.refusal.Refusal.TheVariants.{AddressRange, Misaligned, MissingBit}
 use Rattle.fault.specs.declared.report.Access.{Access}
 use Rattle.fault.specs.declared.report.Fault.{Fault}
 use Rattle.machine.specs.Checks.{Check, access_at, addressed, aligned, and_then, demand, entrance, judged, judgement, level_at}

@@ -1,5 +1,5 @@
 -- What every state keeps is kept by each change that a call makes. Assumes nothing.
-use Rattle.std.proofs.Common.{◌≡◌, ℕ, ◌+◌, ◌-◌, ◌/◌, ◌%◌, ◌<◌, ◌≤◌, Bool, true, false, cond, not, ◌&&◌, ◌||◌, eqb, ltb, leb, List, [], ◌∷◌, ◌++◌, map, length, get_or, take, set, replicate, sym, refl, ap, ◌∙◌, subst, ⊎_elim, arith}
+use Rattle.std.proofs.Common.{◌≡◌, ℕ, ◌+◌, ◌-◌, ◌/◌, ◌%◌, ◌<◌, ◌≤◌, true, false, cond, ltb, leb, List, [], ◌∷◌, ◌++◌, get_or, take, set, replicate, refl, ap, ◌∙◌, ⊎_elim, arith}
 use Rattle.capability.specs.Holdings.{after, empty, fresh, reading_of}
 use Rattle.capability.specs.declared.counter.Counter.{Counter}
 use Rattle.capability.specs.declared.holding.Event.{Event}
@@ -8,14 +8,13 @@ use Rattle.capability.specs.declared.holding.Holding.{Holding}
 use Rattle.capability.specs.declared.holding.Holding.TheVariants.{Empty, Short, Counted}
 use Rattle.machine.specs.Checks.{is_short}
 use Rattle.machine.specs.Rules.{called_engine, frame_now, returned_engine}
-use Rattle.machine.specs.Sound.{Fine, Grounded, GroundedAll, Lasting, Settled, Sound, fine, formed, settled}
+use Rattle.machine.specs.Sound.{Grounded, Sound, fine, formed, settled}
 use Rattle.machine.specs.State.{Core, counted, depth, holding, moved, no_frame, on, place_of, run, slotted, stacked, started, told}
 use Rattle.machine.specs.declared.frame.Frame.{Frame}
 use Rattle.plan.proofs.Each.{each_same, each_set}
 use Rattle.plan.specs.Chart.{has_bit}
 use Rattle.plan.specs.Tables.{Planned, owner_of, page_at}
-use Rattle.std.proofs.lemmas.Bool.{and_from, and_parts, leb-true, le-leb, cases_eq, or_left}
-use Rattle.std.proofs.lemmas.List.{get_or-set_other, get_or-set_same}
+use Rattle.std.proofs.lemmas.Bool.{and_from, and_parts, leb-true, le-leb, cases_eq}
 use Rattle.machine.proofs.Within.{each_map, each_push, each_take, within_push, within_take}
 
 pub took : (h x : Holding) → after h (Took x) ≡ x

@@ -1,5 +1,5 @@
 -- The checks that instructions and host calls share. Assumes nothing.
-use Rattle.std.specs.Prelude.{ℕ, ◌+◌, ◌%◌, Bool, true, false, cond, not, ◌&&◌, Some, None, Ok, Err, Option, Result, ◌==◌, nat_lt}
+use Rattle.std.specs.Prelude.{ℕ, ◌%◌, Bool, true, false, cond, not, Some, None, Ok, Err, Option, Result, ◌==◌, nat_lt}
 use Rattle.capability.specs.Holdings.{raised, reading_of, spans}
 use Rattle.capability.specs.declared.holding.Holding.{Holding}
 use Rattle.capability.specs.declared.holding.Holding.TheVariants.{Empty, Short, Counted}

@@ -1,5 +1,5 @@
 -- The host's calls DEPOSIT, LEND and RECALL. Assumes nothing.
-use Rattle.std.specs.Prelude.{ℕ, ◌+◌, Bool, true, false, cond, not, ◌&&◌, List, is_some, Ok, Err, Result, ◌==◌, nat_le, nat_lt, slice_index_or}
+use Rattle.std.specs.Prelude.{ℕ, ◌+◌, Bool, true, false, cond, not, ◌&&◌, is_some, Ok, Err, Result, ◌==◌, nat_le, nat_lt, slice_index_or}
 use Rattle.capability.specs.Holdings.{fresh, reading_of}
 use Rattle.capability.specs.declared.counter.Counter.{Counter}
 use Rattle.capability.specs.declared.holding.Event.TheVariants.{Took}
@@ -7,7 +7,6 @@ use Rattle.capability.specs.declared.holding.Holding.{Holding}
 use Rattle.capability.specs.declared.holding.Holding.TheVariants.{Counted}
 use Rattle.fault.specs.Faults.{access_fault}
 use Rattle.fault.specs.Levels.{level_named}
-use Rattle.fault.specs.declared.level.Level.{Level}
 use Rattle.fault.specs.declared.level.Level.TheVariants.{Nothing}
 use Rattle.fault.specs.declared.refusal.Refusal.TheVariants.{FieldRange, WrongPageKind, CounterOut}
 use Rattle.fault.specs.declared.report.Fault.{Fault}

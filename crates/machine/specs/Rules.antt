@@ -14,7 +14,6 @@ use Rattle.fault.specs.declared.level.Level.{Level}
 use Rattle.fault.specs.declared.level.Level.TheVariants.{Nothing}
 use Rattle.fault.specs.declared.refusal.Refusal.{Refusal}
 use Rattle.fault.specs.declared.refusal.Refusal.TheVariants.{PageEnd, AddressRange, LevelTooLow, DeadSource}
-use Rattle.fault.specs.declared.report.Fault.{Fault}
 use Rattle.instruction.specs.Decoding.{decoded}
 use Rattle.instruction.specs.declared.decode.Decoded.{Decoded}
 use Rattle.instruction.specs.declared.op.Op.{Op}
@@ -23,7 +22,7 @@ use Rattle.machine.specs.Actions.{Action, check, go, read_byte, refuse, write_by
 use Rattle.machine.specs.Checks.{Check, above_floor, access_at, and_then, byte_check, demand, entrance, frame_room, frame_there, lasts, owned_by, privileged, slot_check, span_check, stack_room, unspent}
 use Rattle.machine.specs.State.{Core, EngineState, counted, depth, height, holding, moved, no_frame, on, place_of, run, shown, slotted, stacked, tag_now, told, value, valued}
 use Rattle.machine.specs.declared.frame.Frame.{Frame}
-use Rattle.plan.specs.Tables.{Planned, level_for, page_at, slot_at, tag_at}
+use Rattle.plan.specs.Tables.{Planned, level_for, slot_at, tag_at}
 use Rattle.plan.specs.declared.chart.Question.TheVariants.{Load as AskLoad, Store as AskStore, Fetch as AskFetch, Keep as AskKeep}
 use Rattle.std.specs.Option.{unwrap_or}
 

@@ -1,13 +1,11 @@
 -- What a refusal leaves and tells. Assumes nothing.
-use Rattle.std.specs.Prelude.{◌≡◌, ℕ, ◌≤◌, length, Ok, Err, Result}
+use Rattle.std.specs.Prelude.{◌≡◌, ◌≤◌, length, Ok, Err, Result}
 use Rattle.fault.specs.Refusals.{layer_of}
 use Rattle.fault.specs.declared.refusal.Refusal.{Refusal}
 use Rattle.fault.specs.declared.refusal.Refusal.TheVariants.{RecordLength, UnknownCode, FieldRange, PageEnd, AddressRange, OutsideMemory, Misaligned, WrongPageKind, MissingBit, LevelTooLow, NotADoor, StackFull, StackEmpty, BadSpan, DeadSource, ShortLife, NotOwner, NotPrivileged, CounterSpent, CounterOut, DraftNumber, DraftTag, DraftBits, DraftRepeat, DraftFull, MapStorage, BadText}
-use Rattle.fault.specs.declared.report.Access.{Access}
 use Rattle.fault.specs.declared.report.Cause.{Cause}
 use Rattle.fault.specs.declared.report.Cause.TheVariants.{Access as OfAccess, Memory as OfMemory, Bare}
 use Rattle.fault.specs.declared.report.Fault.{Fault}
-use Rattle.fault.specs.declared.report.Outside.{Outside}
 use Rattle.machine.specs.State.{State, place_of}
 use Rattle.machine.specs.declared.answer.Done.{Done}
 use Rattle.plan.specs.Tables.{tag_at}

@@ -1,7 +1,7 @@
 -- Two lists end to end, cut at n. Assumes nothing.
-use Rattle.std.proofs.Common.{◌≡◌, ℕ, ◌+◌, ◌-◌, ◌<◌, ◌≤◌, min, List, [], ◌∷◌, ◌++◌, length, get_or, take, set, sym, refl, ap, ◌∙◌, arith, length-append, length-take, get_or-take}
-use Rattle.std.proofs.lemmas.List.{get_or_append_left, get_or-append_right, set-append_left, set-append_right, set_past}
-use Rattle.memory.specs.Meaning.{checked, read_of, write_of, wrote}
+use Rattle.std.proofs.Common.{◌≡◌, ℕ, ◌+◌, ◌-◌, ◌<◌, ◌≤◌, min, List, ◌++◌, length, get_or, take, set, sym, refl, ap, ◌∙◌, arith, length-append, length-take, get_or-take}
+use Rattle.std.proofs.lemmas.List.{get_or_append_left, get_or-append_right, set-append_left, set-append_right}
+use Rattle.memory.specs.Meaning.{read_of, write_of}
 use Rattle.memory.proofs.Checked.{checked_in, take_of_set}
 
 module _ (n : ℕ) (xs ys : List ℕ) where

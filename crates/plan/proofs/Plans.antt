@@ -1,13 +1,13 @@
 -- What every plan keeps, at a new draft and after a page, an S page and an entry. Assumes nothing.
-use Rattle.std.proofs.Common.{◌≡◌, ℕ, zero, suc, ◌<◌, true, false, eqb, List, [], ◌∷◌, length, get_or, set, replicate, sym, refl, ap, ◌∙◌, ⊎_elim, arith, lit<}
-use Rattle.std.proofs.lemmas.List.{get_or-set_same, get_or-set_other, length-replicate, get_or-replicate}
-use Rattle.std.proofs.lemmas.Bool.{both_ways, cases_eq, eqb-true, eq-eqb, ne_eqb}
+use Rattle.std.proofs.Common.{◌≡◌, ℕ, zero, suc, ◌<◌, true, List, [], ◌∷◌, length, get_or, set, replicate, sym, refl, ap, ◌∙◌, ⊎_elim, arith, lit<}
+use Rattle.std.proofs.lemmas.List.{get_or-replicate}
+use Rattle.std.proofs.lemmas.Bool.{both_ways, cases_eq, eqb-true, ne_eqb}
 use Rattle.plan.specs.Chart.{has_bit}
 use Rattle.plan.specs.Tables.{Proper, ProperPage, StartsFirst, Stored, Twelves, any_of, first_page, no_entry, no_store, on_page, unplanned}
 use Rattle.plan.specs.declared.records.Entry.{Entry}
 use Rattle.plan.specs.declared.records.Page.{Page}
 use Rattle.plan.specs.declared.records.StorePage.{StorePage}
-use Rattle.plan.proofs.Each.{any_new, any_set, each_same, each_set}
+use Rattle.plan.proofs.Each.{any_set, each_same, each_set}
 
 first_proper : ProperPage first_page
 first_proper = (lit< tt, lit< tt, λ e. lit< tt)

@@ -10,7 +10,7 @@ use Rattle.text.specs.Reading.{at, judge, moved, read_from, read_of, refused_at,
 use Rattle.text.specs.Sections.{blank_closes, names_of, next_of, width_of}
 use Rattle.text.specs.Sheets.{Task, empty, row_of, with_memory}
 use Rattle.text.specs.Splitting.{closed, ended, lines_of}
-use Rattle.text.specs.Writing.{Content, Fits, Regular, and_then, lines_by, meaning, memory_row, row, section, take_rows, written}
+use Rattle.text.specs.Writing.{Content, Fits, Regular, and_then, lines_by, meaning, memory_row, row, section, take_rows}
 use Rattle.text.specs.declared.sections.Section.{Section}
 use Rattle.text.specs.declared.sections.Section.TheVariants.{Memory, Pages, Entries, Counters, Trace}
 use Rattle.text.specs.declared.sections.Stage.TheVariants.{Names, Rows, Closed}

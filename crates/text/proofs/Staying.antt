@@ -1,5 +1,5 @@
 -- A row that leaves the section open. Assumes nothing.
-use Rattle.std.proofs.Common.{◌≡◌, ℕ, List, Ok, Err, Result, sym, refl, ap, ◌∙◌, arith}
+use Rattle.std.proofs.Common.{◌≡◌, ℕ, List, Ok, Err, Result, sym, refl, ap, ◌∙◌}
 use Rattle.fault.specs.declared.refusal.Refusal.{Refusal}
 use Rattle.text.specs.Reading.{at, moved, row_at}
 use Rattle.text.specs.Sheets.{Task, after_of, answer_of, row_of}

@@ -1,4 +1,4 @@
-use Rattle.std.proofs.Common.{◌≡◌, ◌-◌, take, ap, ◌∙◌, arith}
+use Rattle.std.proofs.Common.{◌-◌, take, ap, ◌∙◌, arith}
 use Rattle.capability.specs.Holdings.{empty}
 use Rattle.machine.specs.Engines.{engine_of}
 use Rattle.machine.specs.State.{stacked_engine}

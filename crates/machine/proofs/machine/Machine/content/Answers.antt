@@ -1,4 +1,4 @@
-use Rattle.std.proofs.Common.{◌≡◌, get_or, sym, rules}
+use Rattle.std.proofs.Common.{◌≡◌, get_or, rules}
 use Rattle.std.proofs.lemmas.List.{get_or_past}
 use Rattle.capability.specs.Holdings.{empty}
 use Rattle.machine.proofs.Bounds.{past}

@@ -1,8 +1,6 @@
 use Rattle.std.proofs.Common.{sym, ap, ◌∙◌}
-use Rattle.capability.specs.Holdings.{spans}
 use Rattle.fault.specs.declared.refusal.Refusal.TheVariants.{BadSpan}
 use Rattle.machine.specs.Model.{core_of, plan_of}
-use Rattle.machine.specs.Rules.{cut}
 use Rattle.machine.specs.Sound.{fine}
 use Rattle.machine.proofs.Fines.{fine-cut, formed-right}
 use Rattle.machine.proofs.Machines.{refitted, sound_of}

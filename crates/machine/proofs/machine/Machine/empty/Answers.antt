@@ -1,5 +1,3 @@
-use Rattle.std.proofs.Common.{refl}
-use Rattle.capability.specs.declared.holding.Event.TheVariants.{Dropped}
 use Rattle.machine.specs.Model.{core_of, plan_of}
 use Rattle.machine.proofs.Machines.{refitted, sound_of}
 use Rattle.machine.proofs.Sounds.{sound_dropped}

@@ -1,4 +1,4 @@
-use Rattle.std.proofs.Common.{◌≡◌, ltb, arith}
+use Rattle.std.proofs.Common.{ltb, arith}
 use Rattle.fault.specs.declared.refusal.Refusal.TheVariants.{StackEmpty}
 use Rattle.std.proofs.lemmas.List.{length-take-le}
 use Rattle.std.proofs.lemmas.Bool.{ltb-true}

@@ -1,4 +1,4 @@
-use Rattle.std.proofs.Common.{◌≡◌, true, unwrap_or, sym, ap, ◌∙◌, subst, length-set}
+use Rattle.std.proofs.Common.{true, unwrap_or, sym, ap, ◌∙◌, subst, length-set}
 use Rattle.capability.specs.declared.counter.Counter.{Counter}
 use Rattle.fault.specs.declared.level.Level.TheVariants.{Nothing}
 use Rattle.machine.specs.Engines.{engine_of}

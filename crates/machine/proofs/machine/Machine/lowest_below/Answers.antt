@@ -1,4 +1,4 @@
-use Rattle.std.proofs.Common.{◌≡◌, sym, ap, ◌∙◌, arith}
+use Rattle.std.proofs.Common.{sym, ap, ◌∙◌, arith}
 use Rattle.fault.specs.Levels.{rank_of}
 use Rattle.machine.specs.Model.{plan_of}
 use Rattle.machine.proofs.Lowest.{lowest_here, lowest_on}

@@ -1,4 +1,4 @@
-use Rattle.std.proofs.Common.{◌-◌, length, take, ap, ◌∙◌}
+use Rattle.std.proofs.Common.{◌-◌, take, ap, ◌∙◌}
 use Rattle.capability.specs.declared.holding.Event.TheVariants.{Took}
 use Rattle.machine.specs.Model.{core_of, plan_of}
 use Rattle.machine.specs.Sound.{fine}

@@ -1,5 +1,4 @@
-use Rattle.std.proofs.Common.{[], ◌∷◌, ◌++◌, get_or, ap, ◌∙◌}
-use Rattle.capability.specs.Holdings.{empty}
+use Rattle.std.proofs.Common.{ap, ◌∙◌}
 use Rattle.machine.specs.Model.{core_of, plan_of}
 use Rattle.machine.specs.Sound.{fine}
 use Rattle.machine.proofs.Machines.{refitted, sound_of}

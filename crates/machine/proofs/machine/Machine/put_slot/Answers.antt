@@ -1,4 +1,4 @@
-use Rattle.std.proofs.Common.{◌≡◌, set, sym, ap, ◌∙◌, length-set, rules}
+use Rattle.std.proofs.Common.{◌≡◌, set, ◌∙◌, length-set, rules}
 use Rattle.std.proofs.lemmas.List.{set_past}
 use Rattle.machine.specs.Model.{core_of, plan_of}
 use Rattle.machine.specs.Sound.{Sound}

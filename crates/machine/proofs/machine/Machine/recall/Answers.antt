@@ -1,7 +1,5 @@
-use Rattle.std.proofs.Common.{◌≡◌, sym, ap, ◌∙◌, arith}
-use Rattle.capability.specs.Holdings.{reading_of}
+use Rattle.std.proofs.Common.{arith}
 use Rattle.machine.specs.Model.{model}
-use Rattle.machine.specs.State.{State}
 use Rattle.machine.proofs.Laws.{dead}
 use Rattle.machine.proofs.machine.Machine.recall.Goals as goal
 

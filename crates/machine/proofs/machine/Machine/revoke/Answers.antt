@@ -1,10 +1,10 @@
-use Rattle.std.proofs.Common.{◌≡◌, ◌/◌, ◌<◌, eqb, ltb, get_or, sym, ap, ◌∙◌, arith, length-set}
+use Rattle.std.proofs.Common.{◌/◌, ◌<◌, eqb, ltb, get_or, ◌∙◌, arith, length-set}
 use Rattle.capability.specs.Holdings.{fresh}
 use Rattle.fault.specs.declared.refusal.Refusal.TheVariants.{CounterSpent, NotOwner}
 use Rattle.machine.specs.Model.{core_of, plan_of}
 use Rattle.machine.specs.Sound.{Sound}
 use Rattle.machine.specs.Rules.{raised_counter}
-use Rattle.machine.specs.State.{counted, tag_now}
+use Rattle.machine.specs.State.{counted}
 use Rattle.machine.proofs.Fines.{settled-raised}
 use Rattle.machine.proofs.Machines.{sound_of}
 use Rattle.machine.proofs.Passing.{demand_passed}

@@ -1,4 +1,4 @@
-use Rattle.std.proofs.Common.{ℕ, sym, refl, ap, ◌∙◌, subst}
+use Rattle.std.proofs.Common.{sym, refl, ap, subst}
 use Rattle.machine.specs.Sound.{Sound}
 use Rattle.machine.specs.State.{EngineState, run, started}
 use Rattle.machine.proofs.Sounds.{sound_start}

@@ -1,4 +1,4 @@
-use Rattle.std.proofs.Common.{◌≡◌, ◌+◌, false, get_or, sym, ap, ◌∙◌, arith, length-set}
+use Rattle.std.proofs.Common.{◌+◌, false, get_or, sym, ap, ◌∙◌, arith, length-set}
 use Rattle.capability.specs.Holdings.{fresh}
 use Rattle.capability.specs.declared.counter.Counter.{Counter}
 use Rattle.machine.specs.Model.{core_of, plan_of}

@@ -1,4 +1,4 @@
-use Rattle.std.proofs.Common.{◌≡◌, ◌<◌, min, length, sym, refl, ap, ◌∙◌, arith, length-take, get_or-take, rules}
+use Rattle.std.proofs.Common.{◌<◌, sym, arith, length-take, get_or-take}
 use Rattle.memory.proofs.Checked.{checked_in, checked_out}
 use Rattle.memory.proofs.flat.FlatMemory.read.Goals as goal
 

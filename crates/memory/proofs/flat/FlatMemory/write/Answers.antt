@@ -1,5 +1,4 @@
-use Rattle.std.proofs.Common.{◌≡◌, length, sym, refl, ap, ◌∙◌, arith, length-take}
-use Rattle.std.proofs.lemmas.List.{set_past}
+use Rattle.std.proofs.Common.{refl, arith, length-take}
 use Rattle.memory.proofs.Checked.{checked_in, checked_out, take_of_set}
 use Rattle.memory.proofs.flat.FlatMemory.write.Goals as goal
 

@@ -1,4 +1,4 @@
-use Rattle.std.proofs.Common.{◌≡◌, ◌-◌, ap, ◌∙◌, arith}
+use Rattle.std.proofs.Common.{◌-◌, ap, ◌∙◌, arith}
 use Rattle.memory.specs.Meaning.{read_of}
 use Rattle.memory.proofs.Checked.{checked_out}
 use Rattle.memory.proofs.Cut.{read_low, read_high}

@@ -1,4 +1,4 @@
-use Rattle.std.proofs.Common.{◌≡◌, ◌-◌, ◌++◌, take, set, sym, refl, ap, ◌∙◌, arith}
+use Rattle.std.proofs.Common.{◌-◌, ◌++◌, take, set, sym, refl, ap, ◌∙◌, arith}
 use Rattle.memory.specs.Meaning.{write_of}
 use Rattle.memory.proofs.Checked.{checked_out, wrote-set}
 use Rattle.memory.proofs.Cut.{cut, write_low, write_high, set_low, set_high}

@@ -1,4 +1,4 @@
-use Rattle.std.proofs.Common.{◌*◌, ◌/◌, ◌≤◌, length, arith}
+use Rattle.std.proofs.Common.{arith}
 use Rattle.memory.proofs.Checked.{checked_in, checked_out}
 use Rattle.memory.proofs.Halves.{halves-length, halves-at}
 use Rattle.memory.proofs.nibble.NibbleMemory.read.Goals as goal

@@ -1,5 +1,4 @@
-use Rattle.std.proofs.Common.{sym, refl, arith, length-set}
-use Rattle.std.proofs.lemmas.List.{set_past}
+use Rattle.std.proofs.Common.{refl, arith, length-set}
 use Rattle.memory.proofs.Checked.{checked_in, checked_out}
 use Rattle.memory.proofs.Halves.{halves-length, halves-put}
 use Rattle.memory.proofs.nibble.NibbleMemory.write.Goals as goal

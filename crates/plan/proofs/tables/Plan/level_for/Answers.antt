@@ -1,4 +1,4 @@
-use Rattle.std.proofs.Common.{◌≡◌, [], get_or, sym, arith, rules}
+use Rattle.std.proofs.Common.{◌≡◌, [], get_or, arith, rules}
 use Rattle.std.proofs.lemmas.List.{get_or_past}
 use Rattle.plan.proofs.tables.Plan.level_for.Goals as goal
 

@@ -1,4 +1,4 @@
-use Rattle.std.proofs.Common.{◌/◌, is_some, sym, refl, ap, ◌∙◌, arith}
+use Rattle.std.proofs.Common.{◌/◌, is_some, sym, refl, ap, arith}
 use Rattle.plan.specs.Model.{planned}
 use Rattle.plan.specs.Tables.{on_page, slot_found}
 use Rattle.plan.proofs.Slots.{found_any, one_slot}

@@ -3,7 +3,7 @@ use Rattle.std.proofs.Common.{◌≡◌, ℕ, ◌+◌, ◌<◌, ◌≤◌, Bool,
 use Rattle.fault.specs.declared.refusal.Refusal.{Refusal}
 use Rattle.std.proofs.lemmas.Slice.Eq.{bytes_eq-Decides}
 use Rattle.std.proofs.lemmas.Bool.{cond-true}
-use Rattle.std.specs.List.{AllByRecursion as All}
+use Rattle.std.specs.List.{AllByRecursion}
 use Rattle.std.specs.Str.{bytes_eq}
 use Rattle.text.specs.Reading.{State, at, moved, onward, read_from, row_at, step_at, step_line}
 use Rattle.text.specs.Sections.{blank_closes, names_of, next_of, width_of}
@@ -60,7 +60,7 @@ module _ (s : Section) (plain : (t : Task) (line : List ℕ) → row_at s t line
       shut true = refl
       shut false = refl
 
-  pub reads_rows : (rows : List (List ℕ)) (t u : Task) (ls : List (List ℕ)) (task : Task) → All (Fits s) rows → take_rows s t rows ≡ Ok u → Reads (at (Rows s) u) ls task → Reads (at (Rows s) t) (map row rows ++ ls) task
+  pub reads_rows : (rows : List (List ℕ)) (t u : Task) (ls : List (List ℕ)) (task : Task) → AllByRecursion (Fits s) rows → take_rows s t rows ≡ Ok u → Reads (at (Rows s) u) ls task → Reads (at (Rows s) t) (map row rows ++ ls) task
   reads_rows [] t u ls task f e h = λ n. let k : t ≡ u = cc in ap (λ x. read_from (at (Rows s) x) n (map closed ls)) k ∙ h n
   reads_rows (ns ∷ rows) t u ls task f e h =
       let p = then_ok (take_row s t ns) (λ x. take_rows s x rows) u e in

@@ -4,7 +4,7 @@ use Rattle.fault.specs.declared.refusal.Refusal.TheVariants.{BadText}
 use Rattle.std.proofs.ByRecursion.{All-append, All-map, All-weaker}
 use Rattle.std.proofs.lemmas.List.{append-nil}
 use Rattle.std.proofs.lemmas.Bool.{cond-true, le-leb, leb-true}
-use Rattle.std.specs.List.{AllByRecursion as All}
+use Rattle.std.specs.List.{AllByRecursion}
 use Rattle.text.specs.Laws.{Exact, Says}
 use Rattle.text.specs.Reading.{at, judge, moved, read_from, read_of, refused_at, row_at, start}
 use Rattle.text.specs.Sections.{blank_closes, names_of, next_of, width_of}
@@ -22,10 +22,10 @@ use Rattle.text.proofs.Pieces.{Free, lines_ended, text_of, text_closed, text_lin
 use Rattle.text.proofs.RowText.{free-row}
 
 -- the lines of a content have no line feed
-free-section : (s : Section) → Free 10 (names_of s) → (rows : List (List ℕ)) → All (Fits s) rows → All (Free 10) (section s rows)
+free-section : (s : Section) → Free 10 (names_of s) → (rows : List (List ℕ)) → AllByRecursion (Fits s) rows → AllByRecursion (Free 10) (section s rows)
 free-section s f rows g = (f, All-map (Free 10) row rows (All-weaker (Fits s) (λ ns. Free 10 (row ns)) (free-row s) rows g))
 
-pub free-written : (c : Content) → Regular c → All (Free 10) (lines_by c)
+pub free-written : (c : Content) → Regular c → AllByRecursion (Free 10) (lines_by c)
 free-written c g = (
   refl,
   (
@@ -45,11 +45,11 @@ free-written c g = (
 
 -- a section that a blank line closes
 module _ (s : Section) (plain : (t : Task) (line : List ℕ) → row_at s t line ≡ moved (Rows s) (row_of s t line)) (some : 0 < width_of s) (closing : blank_closes s ≡ true) where
-  reads_section : (rows : List (List ℕ)) (t u : Task) (ls : List (List ℕ)) (task : Task) → All (Fits s) rows → take_rows s t rows ≡ Ok u → Reads (at (Names (next_of s)) u) ls task → Reads (at (Names s) t) (section s rows ++ [] ∷ ls) task
+  reads_section : (rows : List (List ℕ)) (t u : Task) (ls : List (List ℕ)) (task : Task) → AllByRecursion (Fits s) rows → take_rows s t rows ≡ Ok u → Reads (at (Names (next_of s)) u) ls task → Reads (at (Names s) t) (section s rows ++ [] ∷ ls) task
   reads_section rows t u ls task f e h =
       reads_names s t (map row rows ++ [] ∷ ls) task (reads_rows s plain some rows t u ([] ∷ ls) task f e (reads_blank s plain some closing u ls task h))
 
-reads-trace : (rows : List (List ℕ)) (t task : Task) → All (Fits Trace) rows → take_rows Trace t rows ≡ Ok task → Reads (at (Names Trace) t) (section Trace rows) task
+reads-trace : (rows : List (List ℕ)) (t task : Task) → AllByRecursion (Fits Trace) rows → take_rows Trace t rows ≡ Ok task → Reads (at (Names Trace) t) (section Trace rows) task
 reads-trace rows t task f e =
     reads_names Trace t (map row rows) task (λ n. ap (λ ls. read_from (at (Rows Trace) t) n (map closed ls)) (sym (append-nil (map row rows))) ∙ reads_rows Trace (λ _ _. refl) (omega arith) rows t task [] task f e (λ _. refl) n)
 

@@ -1,7 +1,7 @@
 -- No two contents are written alike. Assumes nothing.
 use Rattle.std.proofs.Common.{◌≡◌, ℕ, ◌^◌, ◌<◌, true, false, List, [], ◌∷◌, ◌++◌, map, get_or, drop, Some, sym, refl, ap, ◌∙◌, arith}
 use Rattle.std.proofs.lemmas.Fmt.{decimal_injective}
-use Rattle.std.specs.List.{AllByRecursion as All}
+use Rattle.std.specs.List.{AllByRecursion}
 use Rattle.text.specs.Laws.{Once}
 use Rattle.text.specs.Numbers.{fields_of}
 use Rattle.text.specs.Reading.{is_blank}
@@ -44,7 +44,7 @@ module _ (s : Section) (some : 0 < width_of s) where
       let z : ◌≡◌ {A = ℕ} 0 1 = cc in omega arith
 
   -- rows up to a blank line
-  same_rows : (rs qs xs ys : List (List ℕ)) → All (Fits s) rs → All (Fits s) qs → map row rs ++ [] ∷ xs ≡ map row qs ++ [] ∷ ys → (rs ≡ qs) × (xs ≡ ys)
+  same_rows : (rs qs xs ys : List (List ℕ)) → AllByRecursion (Fits s) rs → AllByRecursion (Fits s) qs → map row rs ++ [] ∷ xs ≡ map row qs ++ [] ∷ ys → (rs ≡ qs) × (xs ≡ ys)
   same_rows [] [] xs ys f g e = (refl, ap (drop 1) e)
   same_rows [] (q ∷ qs) xs ys f g e = absurd (blank_row q g.0 (ap (λ l. get_or l 0 []) e))
   same_rows (r ∷ rs) [] xs ys f g e = absurd (blank_row r f.0 (sym (ap (λ l. get_or l 0 []) e)))
@@ -53,7 +53,7 @@ module _ (s : Section) (some : 0 < width_of s) where
       let k = same_rows rs qs xs ys f.1 g.1 (ap (drop 1) e) in
       (ap (λ x. x ∷ rs) h ∙ ap (λ x. q ∷ x) k.0, k.1)
 
-  same_last : (rs qs : List (List ℕ)) → All (Fits s) rs → All (Fits s) qs → map row rs ≡ map row qs → rs ≡ qs
+  same_last : (rs qs : List (List ℕ)) → AllByRecursion (Fits s) rs → AllByRecursion (Fits s) qs → map row rs ≡ map row qs → rs ≡ qs
   same_last [] [] f g e = refl
   same_last [] (q ∷ qs) f g e = never (cc)
   same_last (r ∷ rs) [] f g e = never (cc)

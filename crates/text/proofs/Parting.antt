@@ -4,7 +4,7 @@ use Rattle.fault.specs.declared.refusal.Refusal.TheVariants.{BadText}
 use Rattle.std.proofs.lemmas.Slice.Eq.{bytes_eq-Decides}
 use Rattle.std.proofs.lemmas.List.{nil_from_length}
 use Rattle.std.proofs.lemmas.Bool.{eqb-true}
-use Rattle.std.specs.List.{AllByRecursion as All}
+use Rattle.std.specs.List.{AllByRecursion}
 use Rattle.std.specs.Str.{bytes_eq}
 use Rattle.text.specs.Reading.{State, at, demand_line, ending, is_blank, may_end, moved, onward, read_from, refused_at, row_at, step_at, step_line}
 use Rattle.text.specs.Sections.{blank_closes, names_of, next_of}
@@ -87,7 +87,7 @@ pub record BeginsRows (s : Section) (t : Task) (lines : List (List ℕ)) (task :
   pub to : Task
   pub number : ℕ
   pub split : lines ≡ map row rows ++ [] ∷ rest
-  pub fits : All (Fits s) rows
+  pub fits : AllByRecursion (Fits s) rows
   pub taken : take_rows s t rows ≡ Ok to
   pub goes : read_from (at (Names (next_of s)) to) number (map closed rest) ≡ Ok task
 
@@ -151,7 +151,7 @@ module _ (s : Section) (plain : (t : Task) (line : List ℕ) → row_at s t line
 pub record IsTrace (t : Task) (lines : List (List ℕ)) (task : Task) : Type 0 where
   pub rows : List (List ℕ)
   pub split : lines ≡ map row rows
-  pub fits : All (Fits Trace) rows
+  pub fits : AllByRecursion (Fits Trace) rows
   pub taken : take_rows Trace t rows ≡ Ok task
 
 pub part_trace : (lines : List (List ℕ)) (t : Task) (n : ℕ) (task : Task) → read_from (at (Rows Trace) t) n (map closed lines) ≡ Ok task → IsTrace t lines task
@@ -172,14 +172,14 @@ pub record From (s : Section) (Rest : Task → List (List ℕ) → Type 0) (t : 
   pub rest : List (List ℕ)
   pub to : Task
   pub split : lines ≡ section s rows ++ [] ∷ rest
-  pub fits : All (Fits s) rows
+  pub fits : AllByRecursion (Fits s) rows
   pub taken : take_rows s t rows ≡ Ok to
   pub behind : Rest to rest
 
 pub record FromTrace (task t : Task) (lines : List (List ℕ)) : Type 0 where
   pub rows : List (List ℕ)
   pub split : lines ≡ section Trace rows
-  pub fits : All (Fits Trace) rows
+  pub fits : AllByRecursion (Fits Trace) rows
   pub taken : take_rows Trace t rows ≡ Ok task
 
 abbrev Reaches : Section → (Task → List (List ℕ) → Type 0) → Task → Type 0

@@ -1,7 +1,7 @@
 -- Pieces are glued and parted without loss. Assumes nothing.
 use Rattle.std.proofs.Common.{◌≡◌, ℕ, Bool, true, false, cond, not, ◌&&◌, eqb, List, [], ◌∷◌, ◌++◌, map, sym, refl, ap, ◌∙◌}
 use Rattle.std.proofs.lemmas.Bool.{and_from, and_parts, cond-false, cond-true, eq-eqb, eqb-true, not-true}
-use Rattle.std.specs.List.{AllByRecursion as All}
+use Rattle.std.specs.List.{AllByRecursion}
 use Rattle.text.specs.Splitting.{Line, closed, unclosed, ended, glued, last_line, lines_in, lines_of, on_first, pieces}
 use Rattle.text.proofs.Cutting.{pieces_some}
 
@@ -32,7 +32,7 @@ pieces-cut stop (x ∷ w) xs f =
     cond-false (eqb x stop) _ _ (not-true (eqb x stop) p.0) ∙ ap (on_first x) (pieces-cut stop w xs p.1)
 
 -- what was glued is parted
-pub pieces-glued : (stop : ℕ) (w : List ℕ) (ws : List (List ℕ)) → All (Free stop) (w ∷ ws) → pieces stop (glued stop (w ∷ ws)) ≡ w ∷ ws
+pub pieces-glued : (stop : ℕ) (w : List ℕ) (ws : List (List ℕ)) → AllByRecursion (Free stop) (w ∷ ws) → pieces stop (glued stop (w ∷ ws)) ≡ w ∷ ws
 pieces-glued stop w [] f = pieces-free stop w f.0
 pieces-glued stop w (v ∷ ws) f = pieces-cut stop w (glued stop (v ∷ ws)) f.0 ∙ ap (λ ps. w ∷ ps) (pieces-glued stop v ws f.1)
 
@@ -53,14 +53,14 @@ glued-pieces stop (x ∷ xs) =
     ] refl
 
 -- no piece has a stop
-first_free : (stop x : ℕ) (ps : List (List ℕ)) → eqb x stop ≡ false → All (Free stop) ps → All (Free stop) (on_first x ps)
+first_free : (stop x : ℕ) (ps : List (List ℕ)) → eqb x stop ≡ false → AllByRecursion (Free stop) ps → AllByRecursion (Free stop) (on_first x ps)
 first_free stop x [] e f = (and_from (not (eqb x stop)) true (ap not e) refl, tt)
 first_free stop x (p ∷ ps) e f = (and_from (not (eqb x stop)) (free stop p) (ap not e) f.0, f.1)
 
-pub free-pieces : (stop : ℕ) (xs : List ℕ) → All (Free stop) (pieces stop xs)
+pub free-pieces : (stop : ℕ) (xs : List ℕ) → AllByRecursion (Free stop) (pieces stop xs)
 free-pieces stop [] = (refl, tt)
 free-pieces stop (x ∷ xs) =
-    elim (eqb x stop) as (λ b. eqb x stop ≡ b → All (Free stop) (cond b ([] ∷ pieces stop xs) (on_first x (pieces stop xs)))) [
+    elim (eqb x stop) as (λ b. eqb x stop ≡ b → AllByRecursion (Free stop) (cond b ([] ∷ pieces stop xs) (on_first x (pieces stop xs)))) [
       | true ↦ λ t. (refl, free-pieces stop xs)
       | false ↦ λ t. first_free stop x (pieces stop xs) t (free-pieces stop xs)
     ] refl
@@ -69,7 +69,7 @@ free-pieces stop (x ∷ xs) =
 pub lines_cons : (l xs : List ℕ) → lines_in (l ∷ pieces 10 xs) ≡ closed l ∷ lines_of xs
 lines_cons l xs = let s = pieces_some 10 xs in ap (λ ps. lines_in (l ∷ ps)) s.1.1 ∙ ap (λ ps. closed l ∷ lines_in ps) (sym s.1.1)
 
-pub lines_ended : (ls : List (List ℕ)) → All (Free 10) ls → lines_of (ended ls) ≡ map closed ls
+pub lines_ended : (ls : List (List ℕ)) → AllByRecursion (Free 10) ls → lines_of (ended ls) ≡ map closed ls
 lines_ended [] f = refl
 lines_ended (l ∷ ls) f =
     ap lines_in (pieces-cut 10 l (ended ls) f.0) ∙ lines_cons l (ended ls) ∙ ap (λ k. closed l ∷ k) (lines_ended ls f.1)
@@ -102,14 +102,14 @@ abbrev pub FreeLine : Line → Type 0
 FreeLine (closed l) = Free 10 l
 FreeLine (unclosed l) = Unit {0}
 
-free-last : (p : List ℕ) → All FreeLine (last_line p)
+free-last : (p : List ℕ) → AllByRecursion FreeLine (last_line p)
 free-last [] = tt
 free-last (x ∷ xs) = (tt, tt)
 
-free_in : (ps : List (List ℕ)) → All (Free 10) ps → All FreeLine (lines_in ps)
+free_in : (ps : List (List ℕ)) → AllByRecursion (Free 10) ps → AllByRecursion FreeLine (lines_in ps)
 free_in [] f = tt
 free_in (p ∷ []) f = free-last p
 free_in (p ∷ (q ∷ ps)) f = (f.0, free_in (q ∷ ps) f.1)
 
-pub free_lines : (xs : List ℕ) → All FreeLine (lines_of xs)
+pub free_lines : (xs : List ℕ) → AllByRecursion FreeLine (lines_of xs)
 free_lines xs = free_in (pieces 10 xs) (free-pieces 10 xs)

@@ -3,7 +3,7 @@ use Rattle.std.proofs.Common.{◌≡◌, ℕ, zero, suc, ◌+◌, ◌-◌, ◌<�
 use Rattle.fault.specs.declared.refusal.Refusal.{Refusal}
 use Rattle.fault.specs.declared.refusal.Refusal.TheVariants.{BadText}
 use Rattle.std.proofs.lemmas.Bool.{cond-false, leb-false, lt-leb}
-use Rattle.std.specs.List.{AllByRecursion as All}
+use Rattle.std.specs.List.{AllByRecursion}
 use Rattle.text.specs.Laws.{Earliest, FirstWrong, Long}
 use Rattle.text.specs.Reading.{State, at, ending, judge, may_end, onward, read_from, read_of, refused_at, start, step_line}
 use Rattle.text.specs.Sections.{names_of, next_of}
@@ -78,7 +78,7 @@ finish (Rows s) = from_rows_on s
 finish (Closed s) = [] ∷ from_names (next_of s)
 
 abbrev Finishes : Stage → Type 0
-Finishes stage = All (Free 10) (finish stage) × ((t : Task) (n : ℕ) → is_ok (read_from (at stage t) n (map closed (finish stage))) ≡ true)
+Finishes stage = AllByRecursion (Free 10) (finish stage) × ((t : Task) (n : ℕ) → is_ok (read_from (at stage t) n (map closed (finish stage))) ≡ true)
 
 finishes : (stage : Stage) → Finishes stage
 finishes (Names Trace) = ((refl, tt), λ t n. refl)
@@ -100,7 +100,7 @@ finishes (Closed Trace) = ((refl, (refl, tt)), λ t n. refl)
 -- lines that are accepted, and are the same before the refused line
 record Completed (ls : List Line) (s : State) (n : ℕ) (r : Refused) : Type 0 where
   good : List (List ℕ)
-  free : All (Free 10) good
+  free : AllByRecursion (Free 10) good
   same : take (r.line - n) (map closed good) ≡ take (r.line - n) ls
   right : is_ok (read_from s n (map closed good)) ≡ true
 
@@ -120,7 +120,7 @@ one_more l ls s u n r f e h c =
       right = ap (λ x. is_ok (onward n x (λ t. read_from t (n + 1) (map closed c.good)))) e ∙ c.right;
     }
 
-complete : (ls : List Line) (s : State) (n : ℕ) (r : Refused) → All FreeLine ls → read_from s n ls ≡ Err r → Completed ls s n r
+complete : (ls : List Line) (s : State) (n : ℕ) (r : Refused) → AllByRecursion FreeLine ls → read_from s n ls ≡ Err r → Completed ls s n r
 complete [] s n r f e = here [] s n r (ending_line s n r e)
 complete (closed l ∷ ls) s n r f e =
     elim (step_line s l) as (λ x. step_line s l ≡ x → onward n x (λ t. read_from t (n + 1) ls) ≡ Err r → Completed (closed l ∷ ls) s n r) [

@@ -4,7 +4,7 @@ use Rattle.std.proofs.lemmas.Fmt.{decimal_nonempty, digits_decimal}
 use Rattle.std.proofs.ByRecursion.{All-map, All-weaker}
 use Rattle.std.proofs.lemmas.Str.Parse.{numerals_by_value, tells_all_ascii_digits}
 use Rattle.std.proofs.lemmas.Bool.{and_from, and_parts, leb-true, ne_eqb}
-use Rattle.std.specs.List.{AllByRecursion as All}
+use Rattle.std.specs.List.{AllByRecursion}
 use Rattle.std.specs.Str.{all_ascii_digits}
 use Rattle.text.specs.Numbers.{fields_of, is_digit, number_of, paired}
 use Rattle.text.specs.Reading.{is_blank}
@@ -32,10 +32,10 @@ free_digits stop (x ∷ w) h d =
 pub free_decimal : (stop n : ℕ) → stop < 48 → Small n → Free stop (decimal n)
 free_decimal stop n h k = free_digits stop (decimal n) h (digits_decimal (numerals_by_value _ tells_all_ascii_digits) n (omega arith))
 
-free_decimals : (stop : ℕ) → stop < 48 → (ns : List ℕ) → All Small ns → All (Free stop) (map decimal ns)
+free_decimals : (stop : ℕ) → stop < 48 → (ns : List ℕ) → AllByRecursion Small ns → AllByRecursion (Free stop) (map decimal ns)
 free_decimals stop h ns f = All-map (Free stop) decimal ns (All-weaker Small (λ n. Free stop (decimal n)) (λ n k. free_decimal stop n h k) ns f)
 
-free-glued : (ws : List (List ℕ)) → All (Free 10) ws → Free 10 (glued 32 ws)
+free-glued : (ws : List (List ℕ)) → AllByRecursion (Free 10) ws → Free 10 (glued 32 ws)
 free-glued [] f = refl
 free-glued (w ∷ []) f = f.0
 free-glued (w ∷ (v ∷ ws)) f = free-append 10 w (32 ∷ glued 32 (v ∷ ws)) f.0 (free-glued (v ∷ ws) f.1)
@@ -49,7 +49,7 @@ pairs None p ns e = never (cc)
 pairs (Some m) None ns e = never (cc)
 pairs (Some m) (Some ms) ns e = (m, (ms, (refl, refl, cc)))
 
-pub fields_words : (k : ℕ) (ws : List (List ℕ)) (ns : List ℕ) → fields_of k ws ≡ Some ns → (ws ≡ map decimal ns) × (length ns ≡ k) × All Small ns
+pub fields_words : (k : ℕ) (ws : List (List ℕ)) (ns : List ℕ) → fields_of k ws ≡ Some ns → (ws ≡ map decimal ns) × (length ns ≡ k) × AllByRecursion Small ns
 fields_words zero [] [] e = (refl, refl, tt)
 fields_words zero [] (n ∷ ns) e = never (cc)
 fields_words zero (w ∷ ws) ns e = never (cc)
@@ -67,12 +67,12 @@ fields_words (suc k) (w ∷ ws) (n ∷ ns) e =
     let b = fields_words k ws ns rest in
     (ap (λ x. x ∷ ws) a.1 ∙ ap (λ x. decimal n ∷ x) b.0, ap suc b.1, (a.0, b.2))
 
-pub words_fields : (ns : List ℕ) → All Small ns → fields_of (length ns) (map decimal ns) ≡ Some ns
+pub words_fields : (ns : List ℕ) → AllByRecursion Small ns → fields_of (length ns) (map decimal ns) ≡ Some ns
 words_fields [] f = refl
 words_fields (n ∷ ns) f =
     ap (λ o. paired o (fields_of (length ns) (map decimal ns))) (number_decimal n f.0) ∙ ap (paired (Some n)) (words_fields ns f.1)
 
-pieces-row : (ns : List ℕ) → 0 < length ns → All Small ns → pieces 32 (row ns) ≡ map decimal ns
+pieces-row : (ns : List ℕ) → 0 < length ns → AllByRecursion Small ns → pieces 32 (row ns) ≡ map decimal ns
 pieces-row [] h f = let y : ⊥ = omega arith in absurd y
 pieces-row (n ∷ ns) h f = pieces-glued 32 (decimal n) (map decimal ns) (free_decimals 32 (omega arith) (n ∷ ns) f)
 
@@ -100,7 +100,7 @@ long-glued : (w : List ℕ) (ws : List (List ℕ)) → 0 < length w → 0 < leng
 long-glued w [] h = h
 long-glued w (v ∷ ws) h = simp length-append (omega arith)
 
-long-row : (ns : List ℕ) → 0 < length ns → All Small ns → 0 < length (row ns)
+long-row : (ns : List ℕ) → 0 < length ns → AllByRecursion Small ns → 0 < length (row ns)
 long-row [] h f = h
 long-row (n ∷ ns) h f = let k : n < 2 ^ 32 = f.0 in long-glued (decimal n) (map decimal ns) (decimal_nonempty n (omega arith))
 

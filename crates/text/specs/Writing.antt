@@ -1,7 +1,7 @@
 -- How a plan and a trace are written, and what they mean. Assumes nothing.
 use Rattle.std.specs.Prelude.{◌≡◌, ℕ, ◌^◌, ◌<◌, ◌≤◌, List, [], ◌∷◌, ◌++◌, map, length, Ok, Err, decimal, Result}
 use Rattle.fault.specs.declared.refusal.Refusal.{Refusal}
-use Rattle.std.specs.List.{AllByRecursion as All}
+use Rattle.std.specs.List.{AllByRecursion}
 use Rattle.text.specs.Sections.{names_of, width_of}
 use Rattle.text.specs.Sheets.{Task, empty, letter_of, longest_of, take_row, with_memory}
 use Rattle.text.specs.Splitting.{ended, glued}
@@ -40,14 +40,14 @@ written c = ended (lines_by c)
 
 -- a row has its section's count of numbers, and a memory is as long as its make allows
 abbrev pub Fits : Section → List ℕ → Type 0
-Fits s ns = (length ns ≡ width_of s) × All (λ n. n < 2 ^ 32) ns
+Fits s ns = (length ns ≡ width_of s) × AllByRecursion (λ n. n < 2 ^ 32) ns
 
 pub record Regular (c : Content) : Type 0 where
   pub memory : c.size ≤ longest_of c.make
-  pub pages : All (Fits Pages) c.pages
-  pub entries : All (Fits Entries) c.entries
-  pub counters : All (Fits Counters) c.counters
-  pub trace : All (Fits Trace) c.trace
+  pub pages : AllByRecursion (Fits Pages) c.pages
+  pub entries : AllByRecursion (Fits Entries) c.entries
+  pub counters : AllByRecursion (Fits Counters) c.counters
+  pub trace : AllByRecursion (Fits Trace) c.trace
 
 abbrev pub and_then : Result Task Refusal → (Task → Result Task Refusal) → Result Task Refusal
 and_then (Ok t) rest = rest t

@@ -5,8 +5,9 @@ usage: python3 tools/respell.py            at the top: rewrites crates/*/{src,sp
        python3 tools/respell.py --list     prints each old and new name, and names that fall together
 
 A word in camel case becomes snake case. A dash stays between two words that are both names of functions, as in
-length-drop, and becomes an underscore elsewhere. Types, modules, the functions of src/, strings and comments stay as
-they are, and so do goals' names, which the checker makes.
+length-drop, where the name stands at the left edge of a file alone, and becomes an underscore elsewhere. Types, modules
+and the functions of src/ stay as they are, and so do goals' names, which the checker makes, the comments and strings of
+src/, and the lines of comment in specs/ and proofs/.
 """
 import glob
 import os

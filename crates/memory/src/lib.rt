@@ -23,7 +23,7 @@ pub trait Memory {
 
     ghost within: { (m : Self) → length (bytes m) ≤ most };
 
-    // `MOST`, for generic code: no clause can name an associated constant.
+    // `MOST`, for generic code. Clauses know it as `most`.
     fn longest() -> usize
         ensures { result ≡ most };
 

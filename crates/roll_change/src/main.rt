@@ -58,16 +58,10 @@ fn story(rt: &HostRuntime, draft: Draft) -> anyhow::Result<()> {
     )
 }
 
-fn run(rt: &HostRuntime) -> anyhow::Result<()> {
-    match planned() {
-        Ok(draft) => story(rt, draft),
-        Err(fault) => {
-            println!(rt; "the plan: {fault}")?;
-            Ok(())
-        }
-    }
-}
-
 fn main(rt: HostRuntime) -> anyhow::Result<()> {
-    run(&rt)
+    match planned() {
+        Ok(draft) => story(&rt, draft)?,
+        Err(fault) => println!(rt; "the plan: {fault}")?,
+    }
+    Ok(())
 }

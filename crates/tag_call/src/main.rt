@@ -67,16 +67,10 @@ fn story(rt: &HostRuntime, draft: Draft) -> anyhow::Result<()> {
     obey(rt, &mut machine, "script LOAD 1", word(3, 1, 0, 0, 0))
 }
 
-fn run(rt: &HostRuntime) -> anyhow::Result<()> {
-    match planned() {
-        Ok(draft) => story(rt, draft),
-        Err(fault) => {
-            println!(rt; "the plan: {fault}")?;
-            Ok(())
-        }
-    }
-}
-
 fn main(rt: HostRuntime) -> anyhow::Result<()> {
-    run(&rt)
+    match planned() {
+        Ok(draft) => story(&rt, draft)?,
+        Err(fault) => println!(rt; "the plan: {fault}")?,
+    }
+    Ok(())
 }

@@ -9,14 +9,4 @@ invariant_of-self g c =
     let m = c.args.self.now in
     let t = entered (plan_of m) (core_of m) c.args.to c.in_ok-entrance.ensures in
     let f = refitted m _ _ c.enter.ensures (sound_called (plan_of m) (core_of m) (sound_of m) c.args.to t c.requires.room) in
-    record {
-      slots64 = m.slots64;
-      counters17 = m.counters17;
-      grounded = f.0;
-      returns = f.1;
-      registers_fine = f.2;
-      stack_fine = f.3;
-      slots_fine = f.4;
-      slots_last = f.5;
-      settled = f.6;
-    }
+    assumption (f, m)

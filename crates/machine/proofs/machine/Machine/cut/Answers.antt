@@ -17,14 +17,4 @@ invariant_of-self g c =
     let h = formed-right x (sym s ∙ demand_passed (core_of m) BadSpan c.is_span.result c.in_ok-demand.ensures) c.requires.granting in
     let f = ap (fine m.counters) c.cut.ensures ∙ fine-cut m.counters x held h (ap (fine m.counters) c.get-held.ensures ∙ m.registers_fine c.args.source) in
     let f = refitted m _ _ c.tell.ensures (sound_took (plan_of m) (core_of m) (sound_of m) c.args.a c.cut.result f) in
-    record {
-      slots64 = m.slots64;
-      counters17 = m.counters17;
-      grounded = f.0;
-      returns = f.1;
-      registers_fine = f.2;
-      stack_fine = f.3;
-      slots_fine = f.4;
-      slots_last = f.5;
-      settled = f.6;
-    }
+    assumption (f, m)

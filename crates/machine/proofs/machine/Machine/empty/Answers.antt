@@ -7,14 +7,4 @@ pub invariant_of-self : goal.invariant_of-self
 invariant_of-self g c =
     let m = c.args.self.now in
     let f = refitted m _ _ c.tell.ensures (sound_dropped (plan_of m) (core_of m) (sound_of m) c.args.a) in
-    record {
-      slots64 = m.slots64;
-      counters17 = m.counters17;
-      grounded = f.0;
-      returns = f.1;
-      registers_fine = f.2;
-      stack_fine = f.3;
-      slots_fine = f.4;
-      slots_last = f.5;
-      settled = f.6;
-    }
+    assumption (f, m)

@@ -10,16 +10,6 @@ use Rattle.machine.proofs.machine.Machine.fetch.Goals as goal
 pub invariant_of-self : goal.invariant_of-self
 invariant_of-self g c =
     let m = c.args.self.now in
-    let f = ap (fine m.counters) c.content-content.ensures ∙ fine-content (core_of m) m.slots_fine (slot_at (plan_of m) c.args.at) in
-    let f = refitted m _ _ c.tell.ensures (sound_took (plan_of m) (core_of m) (sound_of m) c.args.a c.content-content.result f) in
-    record {
-      slots64 = m.slots64;
-      counters17 = m.counters17;
-      grounded = f.0;
-      returns = f.1;
-      registers_fine = f.2;
-      stack_fine = f.3;
-      slots_fine = f.4;
-      slots_last = f.5;
-      settled = f.6;
-    }
+    let held = ap (fine m.counters) c.content-content.ensures ∙ fine-content (core_of m) m.slots_fine (slot_at (plan_of m) c.args.at) in
+    let f = refitted m _ _ c.tell.ensures (sound_took (plan_of m) (core_of m) (sound_of m) c.args.a c.content-content.result held) in
+    assumption (f, m)

@@ -15,14 +15,4 @@ invariant_of-self g c =
     let l = ltb-true 0 d (demand_passed (core_of m) StackEmpty (ltb 0 d) c.in_ok-demand.ensures) in
     let n = length-take-le d m.engine.frames (omega arith) in
     let f = refitted m _ _ c.leave.ensures (sound_returned (plan_of m) (core_of m) (sound_of m) (omega (arith, l, n))) in
-    record {
-      slots64 = m.slots64;
-      counters17 = m.counters17;
-      grounded = f.0;
-      returns = f.1;
-      registers_fine = f.2;
-      stack_fine = f.3;
-      slots_fine = f.4;
-      slots_last = f.5;
-      settled = f.6;
-    }
+    assumption (f, m)

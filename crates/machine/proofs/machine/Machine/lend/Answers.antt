@@ -1,4 +1,4 @@
-use Rattle.std.proofs.Common.{true, unwrap_or, sym, ap, ◌∙◌, subst, length-set}
+use Rattle.std.proofs.Common.{true, unwrap_or, sym, ap, ◌∙◌, subst, length-set, ◌≡◌, length, set}
 use Rattle.capability.specs.declared.counter.Counter.{Counter}
 use Rattle.fault.specs.declared.level.Level.TheVariants.{Nothing}
 use Rattle.machine.specs.Engines.{engine_of}
@@ -20,14 +20,5 @@ invariant_of-self g c =
     let l = lend_passed p d a.counter a.register a.base a.size a.level c.in_ok-lend_check.ensures in
     let s = sound_lent_at p d a.counter a.register a.base a.size a.level n c.unwrap_or.result (sound_of m) l c.reading_of-reading.ensures (c.unwrap_or.ensures ∙ ap (λ o. unwrap_or o Nothing) c.named.ensures) in
     let f : Sound p (run (engine_of c.tell.new.self) (counted a.counter x d)) = subst (λ (e : EngineState). Sound p (run e (counted a.counter x d))) (sym c.tell.ensures) s in
-    record {
-      slots64 = m.slots64;
-      counters17 = length-set m.counters a.counter _ ∙ m.counters17;
-      grounded = f.0;
-      returns = f.1;
-      registers_fine = f.2;
-      stack_fine = f.3;
-      slots_fine = f.4;
-      slots_last = f.5;
-      settled = f.6;
-    }
+    let counters : length (set m.counters a.counter x) ≡ 17 = length-set m.counters a.counter x ∙ m.counters17 in
+    assumption (counters, f, m)

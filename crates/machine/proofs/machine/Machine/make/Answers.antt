@@ -23,14 +23,4 @@ invariant_of-self g c =
     let h = formed-right x (demand_passed d BadSpan (spans x.base x.size) q.0) c.requires.granting in
     let f = ap (fine m.counters) c.made-made.ensures ∙ fine-made p d x life h c.requires.lives r.0 in
     let f = refitted m _ _ c.tell.ensures (sound_took p d (sound_of m) c.args.a c.made-made.result f) in
-    record {
-      slots64 = m.slots64;
-      counters17 = m.counters17;
-      grounded = f.0;
-      returns = f.1;
-      registers_fine = f.2;
-      stack_fine = f.3;
-      slots_fine = f.4;
-      slots_last = f.5;
-      settled = f.6;
-    }
+    assumption (f, m)

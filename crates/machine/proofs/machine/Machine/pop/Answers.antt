@@ -16,14 +16,4 @@ invariant_of-self g c =
     let f = ap (fine m.counters) c.pop-top.ensures.top ∙ m.stack_fine n in
     let e = c.tell.ensures ∙ ap (told_engine c.args.a (Took x)) c.pop-top.ensures.rest in
     let f = refitted m _ _ e (sound_took (plan_of m) (stacked (take n d.engine.stack) d) (sound_popped (plan_of m) d (sound_of m) n) c.args.a x f) in
-    record {
-      slots64 = m.slots64;
-      counters17 = m.counters17;
-      grounded = f.0;
-      returns = f.1;
-      registers_fine = f.2;
-      stack_fine = f.3;
-      slots_fine = f.4;
-      slots_last = f.5;
-      settled = f.6;
-    }
+    assumption (f, m)

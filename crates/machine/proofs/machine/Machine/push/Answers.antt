@@ -10,14 +10,4 @@ invariant_of-self g c =
     let m = c.args.self.now in
     let f = ap (fine m.counters) c.get-held.ensures ∙ m.registers_fine c.args.a in
     let f = refitted m _ _ c.push.ensures (sound_pushed (plan_of m) (core_of m) (sound_of m) c.get-held.result f) in
-    record {
-      slots64 = m.slots64;
-      counters17 = m.counters17;
-      grounded = f.0;
-      returns = f.1;
-      registers_fine = f.2;
-      stack_fine = f.3;
-      slots_fine = f.4;
-      slots_last = f.5;
-      settled = f.6;
-    }
+    assumption (f, m)

@@ -1,4 +1,4 @@
-use Rattle.std.proofs.Common.{◌≡◌, set, ◌∙◌, length-set, rules}
+use Rattle.std.proofs.Common.{◌≡◌, set, ◌∙◌, length-set, rules, length}
 use Rattle.std.proofs.lemmas.List.{set_past}
 use Rattle.machine.specs.Model.{core_of, plan_of}
 use Rattle.machine.specs.Sound.{Sound}
@@ -12,17 +12,8 @@ pub invariant_of-self : goal.invariant_of-self
 invariant_of-self g c =
     let m = c.args.self.now in
     let f : Sound (plan_of m) (slotted c.args.slot c.args.held (core_of m)) = sound_slotted (plan_of m) (core_of m) (sound_of m) c.args.slot c.args.held c.requires.fine c.requires.lasting in
-    record {
-      slots64 = length-set m.slots c.args.slot _ ∙ m.slots64;
-      counters17 = m.counters17;
-      grounded = f.0;
-      returns = f.1;
-      registers_fine = f.2;
-      stack_fine = f.3;
-      slots_fine = f.4;
-      slots_last = f.5;
-      settled = f.6;
-    }
+    let slots : length (set m.slots c.args.slot c.args.held) ≡ 64 = length-set m.slots c.args.slot c.args.held ∙ m.slots64 in
+    assumption (slots, f, m)
 
 pub returns-else-slot-lt64 : goal.returns-else-slot-lt64
 returns-else-slot-lt64 g c =

@@ -1,4 +1,4 @@
-use Rattle.std.proofs.Common.{◌/◌, ◌<◌, eqb, ltb, get_or, ◌∙◌, arith, length-set}
+use Rattle.std.proofs.Common.{◌/◌, ◌<◌, eqb, ltb, get_or, ◌∙◌, arith, length-set, ◌≡◌, length, set}
 use Rattle.capability.specs.Holdings.{fresh}
 use Rattle.fault.specs.declared.refusal.Refusal.TheVariants.{CounterSpent, NotOwner}
 use Rattle.machine.specs.Model.{core_of, plan_of}
@@ -26,14 +26,5 @@ invariant_of-self g c =
     let owned : 0 < owner_of p k = omega (arith, same, c.owner.ensures, c.tag.ensures, tagged) in
     let x = raised_counter old in
     let f : Sound p (counted k x d) = sound_counted p d (sound_of m) k x (omega arith) (settled-raised (owner_of p k) old owned (m.settled k) low) in
-    record {
-      slots64 = m.slots64;
-      counters17 = length-set m.counters k _ ∙ m.counters17;
-      grounded = f.0;
-      returns = f.1;
-      registers_fine = f.2;
-      stack_fine = f.3;
-      slots_fine = f.4;
-      slots_last = f.5;
-      settled = f.6;
-    }
+    let counters : length (set m.counters k x) ≡ 17 = length-set m.counters k x ∙ m.counters17 in
+    assumption (counters, f, m)

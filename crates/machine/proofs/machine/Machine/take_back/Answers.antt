@@ -1,4 +1,4 @@
-use Rattle.std.proofs.Common.{◌+◌, false, get_or, sym, ap, ◌∙◌, arith, length-set}
+use Rattle.std.proofs.Common.{◌+◌, false, get_or, sym, ap, ◌∙◌, arith, length-set, ◌≡◌, length, set}
 use Rattle.capability.specs.Holdings.{fresh}
 use Rattle.capability.specs.declared.counter.Counter.{Counter}
 use Rattle.machine.specs.Model.{core_of, plan_of}
@@ -21,14 +21,5 @@ invariant_of-self g c =
     let x : Counter = record { reading = c.args.reading + 1; out = false } in
     let s = ap (λ n. settled (owner_of p k) (record { reading = n + 1; out = false })) (sym e) ∙ settled_recalled (owner_of p k) old (m.settled k) (not-false old.out c.if-not-old.false) in
     let f : Sound p (counted k x (core_of m)) = sound_counted p (core_of m) (sound_of m) k x (omega (arith, e)) s in
-    record {
-      slots64 = m.slots64;
-      counters17 = length-set m.counters k _ ∙ m.counters17;
-      grounded = f.0;
-      returns = f.1;
-      registers_fine = f.2;
-      stack_fine = f.3;
-      slots_fine = f.4;
-      slots_last = f.5;
-      settled = f.6;
-    }
+    let counters : length (set m.counters k x) ≡ 17 = length-set m.counters k x ∙ m.counters17 in
+    assumption (counters, f, m)

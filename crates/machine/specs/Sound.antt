@@ -1,5 +1,5 @@
 -- What every state keeps. Assumes nothing.
-use Rattle.std.specs.Prelude.{◌≡◌, ℕ, ◌%◌, ◌<◌, Bool, true, false, not, ◌&&◌, ◌||◌, List, [], ◌∷◌, ◌++◌, map, length, get_or, ◌==◌, nat_le, nat_lt, slice_index_or}
+use Rattle.std.specs.Prelude.{◌≡◌, ℕ, ◌%◌, ◌<◌, Bool, true, false, not, ◌&&◌, ◌||◌, List, [], ◌∷◌, ◌++◌, map, length, ◌==◌, nat_le, nat_lt, slice_index_or}
 use Rattle.capability.specs.Holdings.{empty, fresh, reading_of, spans}
 use Rattle.capability.specs.declared.counter.Counter.{Counter}
 use Rattle.capability.specs.declared.holding.Holding.{Holding}
@@ -17,7 +17,7 @@ abbrev pub Grounded : Planned → ℕ → Type 0
 Grounded p a = (a % 4 ≡ 0) × (a < 32768) × (has_bit 4 (page_at p a).bits ≡ true)
 
 abbrev pub GroundedAll : Planned → List Frame → Type 0
-GroundedAll p fs = (k : ℕ) → k < length fs → Grounded p (get_or fs k no_frame).place
+GroundedAll p fs = (k : ℕ) → k < length fs → Grounded p (slice_index_or fs k no_frame).place
 
 -- no capability exists with a bad span or level; a counted one shows a reading that its counter has reached
 abbrev pub formed : Right → Bool

@@ -1,5 +1,5 @@
 -- What the calls of a draft do: PAGE, ENTRY and COUNTER, with their checks in order. Assumes nothing.
-use Rattle.std.specs.Prelude.{ℕ, Bool, true, false, cond, not, ◌&&◌, List, [], ◌∷◌, get_or, replicate, is_some, Some, None, Ok, Err, Option, Result, ◌==◌, nat_le, slice_index_or, slice_set}
+use Rattle.std.specs.Prelude.{ℕ, Bool, true, false, cond, not, ◌&&◌, List, [], ◌∷◌, replicate, is_some, Some, None, Ok, Err, Option, Result, ◌==◌, nat_le, slice_index_or, slice_set}
 use Rattle.fault.specs.Faults.{bare_fault}
 use Rattle.fault.specs.Levels.{level_named}
 use Rattle.fault.specs.declared.level.Level.{Level}
@@ -59,7 +59,7 @@ draft_page d n t b =
     demand (between 1 127 n) DraftNumber
     (demand (between 1 63 t) DraftTag
     (demand (nat_le b 31 && not (has_bit 16 b && has_bit 4 b)) DraftBits
-    (demand ((get_or d.plan.pages n unplanned).tag == 0) DraftRepeat
+    (demand ((slice_index_or d.plan.pages n unplanned).tag == 0) DraftRepeat
     (cond (has_bit 16 b) (store_page d n (record { tag = t; bits = b }) (first_where (on_page 0) d.plan.stores)) (Ok (paged n (record { tag = t; bits = b }) d.plan.stores d))))))
 
 -- an entry takes the first free place among the twelve

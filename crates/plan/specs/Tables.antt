@@ -1,5 +1,5 @@
 -- What a plan says of pages, tags, counters and slots. Assumes nothing.
-use Rattle.std.specs.Prelude.{◌≡◌, ℕ, ◌+◌, ◌*◌, ◌/◌, ◌%◌, ◌<◌, Bool, true, false, cond, ◌||◌, List, [], ◌∷◌, length, get_or, Some, None, Option, ◌==◌, slice_index, slice_index_or}
+use Rattle.std.specs.Prelude.{◌≡◌, ℕ, ◌+◌, ◌*◌, ◌/◌, ◌%◌, ◌<◌, Bool, true, false, cond, ◌||◌, List, [], ◌∷◌, length, Some, None, Option, ◌==◌, slice_index, slice_index_or}
 use Rattle.fault.specs.declared.level.Level.{Level}
 use Rattle.fault.specs.declared.level.Level.TheVariants.{Nothing, Write}
 use Rattle.fault.specs.declared.refusal.Refusal.{Refusal}
@@ -46,7 +46,7 @@ tag_at p a = (page_at p a).tag
 -- the level of the entry at a place that a search found
 abbrev pub level_found : List Entry → Option ℕ → Level
 level_found es None = Nothing
-level_found es (Some i) = (get_or es i no_entry).level
+level_found es (Some i) = (slice_index_or es i no_entry).level
 
 -- the level that tag t has for tag u: its own Write, another's by its list, none for tag 0
 abbrev pub level_for : Planned → ℕ → ℕ → Level
@@ -80,14 +80,14 @@ abbrev pub Proper : List Page → Type 0
 Proper ps = (k : ℕ) → ProperPage (slice_index_or ps k unplanned)
 
 abbrev pub StartsFirst : List Page → Type 0
-StartsFirst ps = ((get_or ps 0 unplanned).tag ≡ 1) × ((get_or ps 0 unplanned).bits ≡ 5)
+StartsFirst ps = ((slice_index_or ps 0 unplanned).tag ≡ 1) × ((slice_index_or ps 0 unplanned).bits ≡ 5)
 
 abbrev pub any_of : {X : Type 0} → (X → Bool) → List X → Bool
 any_of test [] = false
 any_of test (x ∷ xs) = test x || any_of test xs
 
 abbrev pub Stored : List Page → List StorePage → Type 0
-Stored ps ss = (k : ℕ) → has_bit 16 (get_or ps k unplanned).bits ≡ true → any_of (on_page k) ss ≡ true
+Stored ps ss = (k : ℕ) → has_bit 16 (slice_index_or ps k unplanned).bits ≡ true → any_of (on_page k) ss ≡ true
 
 abbrev pub Twelves : List (List Entry) → Type 0
 Twelves ls = (t : ℕ) → t < 64 → length (slice_index_or ls t []) ≡ 12

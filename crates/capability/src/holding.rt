@@ -2,13 +2,16 @@ ghost use Rattle.std.specs.Prelude.{◌≡◌};
 ghost use Rattle.capability.specs.Holdings.{after, granted, level_over, reading_of};
 
 use crate::counter::Counter;
-use crate::right::Right;
+use crate::right::{Right, Span};
 use fault::level::Level;
 
 // What a register, a stack entry or a slot holds: nothing, or a capability with its life. A short one keeps
 // the depth at its making, a counted one its counter and the reading at its making.
-#[derive(Clone, Copy)]
+// Kept: three cases in one enum, since one match has to take a register's own state and the event together and
+// update the register in place, as `happen` does.
+#[derive(Clone, Copy, PartialEq, Eq, Debug, Default)]
 pub enum Holding {
+    #[default]
     Empty,
     Short {
         right: Right,
@@ -22,7 +25,7 @@ pub enum Holding {
 }
 
 // What happens to a register.
-#[derive(Clone, Copy)]
+#[derive(Clone, Copy, PartialEq, Eq, Debug)]
 pub enum Event {
     // A RETURN to a depth.
     Returned(usize),
@@ -38,10 +41,8 @@ impl Holding {
         ensures { self.new ≡ after self.old event }
     {
         match (event, *self) {
-            (Event::Returned(to), Holding::Short { depth, .. }) => {
-                if to < depth {
-                    *self = Holding::Empty;
-                }
+            (Event::Returned(to), Holding::Short { depth, .. }) if to < depth => {
+                *self = Holding::Empty;
             }
             (Event::Returned(_), _) => {}
             (Event::Dropped, _) => *self = Holding::Empty,
@@ -60,40 +61,25 @@ impl Holding {
                 right,
                 counter,
                 reading,
-            } => {
-                if reading_of(counters, counter) == reading {
-                    Some(right)
-                } else {
-                    None
-                }
-            }
+            } => (reading_of(counters, counter) == reading).then_some(right),
         }
     }
 
-    // The level that it gives over all of the bytes from an address on.
-    pub fn level_over(self, counters: &[Counter], address: usize, width: usize) -> Level
-        ensures { result ≡ level_over counters.now self address width }
+    // The level that it gives over all bytes of a span.
+    pub fn level_over(self, counters: &[Counter], asked: Span) -> Level
+        ensures { result ≡ level_over counters.now self asked.base asked.size }
     {
-        match self.granted(counters) {
-            Some(right) => {
-                if right.covers(address, width) {
-                    right.level
-                } else {
-                    Level::Nothing
-                }
-            }
-            None => Level::Nothing,
-        }
+        self.granted(counters)
+            .filter(|right| right.covers(asked))
+            .map_or(Level::Nothing, |right| right.level)
     }
 }
 
-// The reading of a counter.
+// The reading of a counter; a counter that there is not shows 0.
 pub fn reading_of(counters: &[Counter], counter: u8) -> u32
     ensures { result ≡ reading_of counters.now counter }
 {
-    if (counter as usize) < counters.len() {
-        counters[counter as usize].reading
-    } else {
-        0
-    }
+    counters
+        .get(usize::from(counter))
+        .map_or(0, |counter| counter.reading)
 }

@@ -1,15 +1,18 @@
-ghost use Rattle.std.specs.Prelude.{◌≡◌, ◌<◌, map, length, replicate, slice_index_or, slice_set};
+ghost use Rattle.std.specs.Prelude.{◌≡◌, map, replicate, slice_index_or, slice_set};
 ghost use Rattle.capability.specs.Holdings.{after, empty, raised};
 
 use crate::counter::Counter;
 use crate::holding::{Event, Holding};
+use crate::right::Span;
 use fault::level::Level;
 
+// How many capability registers there are.
+pub const COUNT: usize = 8;
+
 // The eight capability registers.
-#[derive(Clone, Copy)]
+#[derive(Clone, Copy, PartialEq, Eq, Debug)]
 pub struct Registers {
-    pub held: [Holding; 8],
-    ghost eight: { length held ≡ 8 },
+    pub held: [Holding; COUNT],
 }
 
 impl Registers {
@@ -17,7 +20,7 @@ impl Registers {
         ensures { result.held ≡ replicate 8 empty }
     {
         Registers {
-            held: [Holding::Empty; 8],
+            held: [Holding::Empty; COUNT],
         }
     }
 
@@ -25,19 +28,17 @@ impl Registers {
     pub fn get(&self, at: u8) -> Holding
         ensures { result ≡ slice_index_or self.now.held at empty }
     {
-        if at >= 8 {
-            return Holding::Empty;
-        }
-        let index = at as usize;
-        self.held[index]
+        self.held.get(usize::from(at)).copied().unwrap_or_default()
     }
 
     // Something happens to one register, and to no other.
     pub fn tell(&mut self, at: u8, event: Event)
         ensures { self.new.held ≡ slice_set self.old.held at (after (slice_index_or self.old.held at empty) event) }
     {
-        if at < 8 {
-            self.held[at as usize].happen(event);
+        let index = usize::from(at);
+        if index < COUNT {
+            // Kept: tried with `get_mut`, whose contract does not say what the slice ends as, so the proof did not close.
+            self.held[index].happen(event);
         }
     }
 
@@ -45,19 +46,18 @@ impl Registers {
     pub fn tell_all(&mut self, event: Event)
         ensures { self.new.held ≡ map (λ r. after r event) self.old.held }
     {
-        for r in self.held.iter_mut() {
-            r.happen(event);
+        for held in self.held.iter_mut() {
+            held.happen(event);
         }
     }
 
-    // A level, raised to the greatest that a live register gives over the bytes from an address on.
-    pub fn raise(&self, level: Level, counters: &[Counter], address: usize, width: usize) -> Level
-        ensures { result ≡ raised counters.now address width level self.now.held }
+    // A level, raised to the greatest that a live register gives over a span.
+    pub fn raise(&self, level: Level, counters: &[Counter], asked: Span) -> Level
+        ensures { result ≡ raised counters.now asked.base asked.size level self.now.held }
     {
-        let mut level = level;
-        for r in self.held.iter() {
-            level = level.higher(r.level_over(counters, address, width));
-        }
-        level
+        self.held.iter().fold(
+            level,
+            |level, held| level.higher(held.level_over(counters, asked)),
+        )
     }
 }

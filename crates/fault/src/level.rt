@@ -1,48 +1,77 @@
 ghost use Rattle.std.specs.Prelude.{◌≡◌};
-ghost use Rattle.fault.specs.Levels.{higher_of, level_named, rank_of};
+ghost use Rattle.fault.specs.Levels.{higher_of, level_of, rank_of};
+
+use std::error::Error;
+use std::fmt;
 
 // What a tag or a capability may do with an address; each level includes those before it.
-#[derive(Clone, Copy, PartialEq, Eq, Debug)]
+#[derive(Clone, Copy, PartialEq, Eq, PartialOrd, Ord, Debug, Default)]
 pub enum Level {
+    #[default]
     Nothing,
     Call,
     Read,
     Write,
 }
 
+// A number that names no level which grants something.
+#[derive(Clone, Copy, PartialEq, Eq, Debug)]
+pub struct UnknownLevel(pub u32);
+
 impl Level {
-    // The level's number, 0 to 3.
-    pub fn rank(self) -> u8
-        ensures { result ≡ rank_of self }
+    // The greater of two levels.
+    pub fn higher(self, other: Level) -> Level
+        ensures { result ≡ higher_of self other }
     {
-        match self {
+        self.max(other)
+    }
+}
+
+// The level's number, 0 to 3.
+impl From<Level> for u8 {
+    ghost from_gives = { λ level number. number ≡ rank_of level };
+
+    fn from(level: Level) -> u8 {
+        match level {
             Level::Nothing => 0,
             Level::Call => 1,
             Level::Read => 2,
             Level::Write => 3,
         }
     }
+}
 
-    // The level of a number that grants something, 1 to 3.
-    pub fn named(number: u32) -> Option<Level>
-        ensures { result ≡ level_named number }
-    {
+// The level of a number that grants something, 1 to 3.
+impl TryFrom<u32> for Level {
+    type Error = UnknownLevel;
+
+    ghost try_from_gives = { λ number level. level ≡ level_of number };
+
+    fn try_from(number: u32) -> Result<Level, UnknownLevel> {
         match number {
-            1 => Some(Level::Call),
-            2 => Some(Level::Read),
-            3 => Some(Level::Write),
-            _ => None,
-        }
-    }
-
-    // The greater of two levels.
-    pub fn higher(self, other: Level) -> Level
-        ensures { result ≡ higher_of self other }
-    {
-        if self.rank() < other.rank() {
-            other
-        } else {
-            self
+            1 => Ok(Level::Call),
+            2 => Ok(Level::Read),
+            3 => Ok(Level::Write),
+            _ => Err(UnknownLevel(number)),
         }
     }
 }
+
+impl fmt::Display for Level {
+    fn fmt<W: fmt::Write>(&self, f: &mut fmt::Formatter<W>) -> fmt::Result {
+        f.write_str(match self {
+            Level::Nothing => "none",
+            Level::Call => "Call",
+            Level::Read => "Read",
+            Level::Write => "Write",
+        })
+    }
+}
+
+impl fmt::Display for UnknownLevel {
+    fn fmt<W: fmt::Write>(&self, f: &mut fmt::Formatter<W>) -> fmt::Result {
+        write!(f, "no level has the number {}", self.0)
+    }
+}
+
+impl Error for UnknownLevel {}

@@ -1,6 +1,8 @@
 ghost use Rattle.std.specs.Prelude.{◌≡◌};
 ghost use Rattle.fault.specs.Refusals.{layer_of, number_of};
 
+use std::fmt;
+
 // The part of the runtime that a refusal comes from.
 #[derive(Clone, Copy, PartialEq, Eq, Debug)]
 pub enum Layer {
@@ -47,12 +49,12 @@ pub enum Refusal {
     BadText,
 }
 
-impl Refusal {
-    // The refusal's number, 1 to 27.
-    pub fn number(self) -> u8
-        ensures { result ≡ number_of self }
-    {
-        match self {
+// The refusal's number, 1 to 27.
+impl From<Refusal> for u8 {
+    ghost from_gives = { λ refusal number. number ≡ number_of refusal };
+
+    fn from(refusal: Refusal) -> u8 {
+        match refusal {
             Refusal::RecordLength => 1,
             Refusal::UnknownCode => 2,
             Refusal::FieldRange => 3,
@@ -82,7 +84,9 @@ impl Refusal {
             Refusal::BadText => 27,
         }
     }
+}
 
+impl Refusal {
     // The layer that gives this refusal.
     pub fn layer(self) -> Layer
         ensures { result ≡ layer_of self }
@@ -113,5 +117,21 @@ impl Refusal {
             Refusal::MapStorage => Layer::Map,
             Refusal::BadText => Layer::Text,
         }
+    }
+}
+
+impl fmt::Display for Layer {
+    fn fmt<W: fmt::Write>(&self, f: &mut fmt::Formatter<W>) -> fmt::Result {
+        f.write_str(match self {
+            Layer::Record => "record",
+            Layer::Page => "page",
+            Layer::Memory => "memory",
+            Layer::Right => "right",
+            Layer::Stack => "stack",
+            Layer::Owner => "owner",
+            Layer::Draft => "draft",
+            Layer::Map => "map",
+            Layer::Text => "text",
+        })
     }
 }

@@ -1,8 +1,10 @@
 ghost use Rattle.std.specs.Prelude.{◌≡◌};
-ghost use Rattle.fault.specs.Faults.{access_fault, bare_fault, memory_fault, placed_at};
+ghost use Rattle.fault.specs.Faults.{access_fault, bare_fault, fault_of, memory_fault, placed_at};
 
 use crate::level::Level;
 use crate::refusal::{Layer, Refusal};
+use std::error::Error;
+use std::fmt;
 
 // What an access asked for: the address, the tag of its page, and the level that was found there.
 #[derive(Clone, Copy, PartialEq, Eq, Debug)]
@@ -36,52 +38,78 @@ pub struct Fault {
 }
 
 impl Fault {
-    // A refusal that tells nothing more.
-    pub fn bare(refusal: Refusal, place: usize) -> Fault
-        ensures { result ≡ bare_fault refusal place }
+    fn new(refusal: Refusal, place: usize, cause: Cause) -> Fault
+        ensures { result ≡ fault_of refusal place cause }
     {
         Fault {
             refusal,
             layer: refusal.layer(),
             place,
-            cause: Cause::Bare,
+            cause,
         }
+    }
+
+    // A refusal that tells nothing more.
+    pub fn bare(refusal: Refusal, place: usize) -> Fault
+        ensures { result ≡ bare_fault refusal place }
+    {
+        Fault::new(refusal, place, Cause::Bare)
     }
 
     // A refusal of an access, with what it asked for.
     pub fn access(refusal: Refusal, place: usize, access: Access) -> Fault
         ensures { result ≡ access_fault refusal place access }
     {
-        Fault {
-            refusal,
-            layer: refusal.layer(),
-            place,
-            cause: Cause::Access(access),
-        }
+        Fault::new(refusal, place, Cause::Access(access))
     }
 
     // The memory's own refusal.
     pub fn memory(place: usize, outside: Outside) -> Fault
         ensures { result ≡ memory_fault place outside }
     {
-        let refusal = Refusal::OutsideMemory;
-        Fault {
-            refusal,
-            layer: refusal.layer(),
-            place,
-            cause: Cause::Memory(outside),
-        }
+        Fault::new(Refusal::OutsideMemory, place, Cause::Memory(outside))
     }
 
     // The same fault, told at another place.
     pub fn at(self, place: usize) -> Fault
         ensures { result ≡ placed_at place self }
     {
-        Fault {
-            refusal: self.refusal,
-            layer: self.layer,
-            place,
-            cause: self.cause,
+        Fault { place, ..self }
+    }
+}
+
+impl fmt::Display for Cause {
+    fn fmt<W: fmt::Write>(&self, f: &mut fmt::Formatter<W>) -> fmt::Result {
+        match self {
+            Cause::Access(
+                Access {
+                    address,
+                    tag,
+                    level,
+                },
+            ) => write!(f, ", address {address}, tag {tag}, level {level}"),
+            Cause::Memory(Outside { address, size }) => {
+                write!(f, ", address {address}, size {size}")
+            }
+            Cause::Bare => Ok(()),
         }
     }
 }
+
+impl fmt::Display for Fault {
+    fn fmt<W: fmt::Write>(&self, f: &mut fmt::Formatter<W>) -> fmt::Result {
+        let Fault {
+            refusal,
+            layer,
+            place,
+            cause,
+        } = self;
+        let number = u8::from(*refusal);
+        write!(
+            f,
+            "refused with {number}, layer {layer}, place {place}{cause}"
+        )
+    }
+}
+
+impl Error for Fault {}

@@ -1,5 +1,6 @@
 -- A record of eight bytes: code, a, b, c, then the number v in four, low byte first. Assumes nothing.
-use Rattle.std.specs.Prelude.{ℕ, ◌+◌, ◌*◌, ◌/◌, ◌%◌, Bool, true, cond, not, ◌&&◌, List, length, Some, None, Ok, Err, Option, Result, ◌==◌, nat_le, nat_lt, slice_index}
+use Rattle.std.specs.Prelude.{◌≡◌, ℕ, ◌<◌, ◌^◌, ◌+◌, ◌*◌, ◌/◌, ◌%◌, Bool, true, if◌then◌else◌, not, ◌&&◌, List, [], ◌∷◌, length, Some, None, Ok, Err, Option, Result, ◌==◌, nat_le, nat_lt, slice_index}
+use Rattle.std.specs.Option.{ok_or}
 use Rattle.fault.specs.declared.refusal.Refusal.{Refusal}
 use Rattle.fault.specs.declared.refusal.Refusal.TheVariants.{RecordLength, UnknownCode, FieldRange}
 use Rattle.instruction.specs.declared.decode.Decoded.{Decoded}
@@ -8,27 +9,33 @@ use Rattle.instruction.specs.declared.form.Field.TheVariants.{Unused, Register, 
 use Rattle.instruction.specs.declared.form.Form.{Form}
 use Rattle.instruction.specs.declared.op.Op.{Op}
 use Rattle.instruction.specs.declared.op.Op.TheVariants.{Set, Add, Load, Store, Jump, Call, Return, Branch, Make, Cut, Drop, Push, Pop, Keep, Fetch, Revoke, Panel}
+use Rattle.instruction.specs.declared.record.Record.{Record}
 
+-- the instruction of a code, 1 to 17
 abbrev pub op_of : ℕ → Option Op
 op_of code =
-    cond (code == 1) (Some Set)
-    (cond (code == 2) (Some Add)
-    (cond (code == 3) (Some Load)
-    (cond (code == 4) (Some Store)
-    (cond (code == 5) (Some Jump)
-    (cond (code == 6) (Some Call)
-    (cond (code == 7) (Some Return)
-    (cond (code == 8) (Some Branch)
-    (cond (code == 9) (Some Make)
-    (cond (code == 10) (Some Cut)
-    (cond (code == 11) (Some Drop)
-    (cond (code == 12) (Some Push)
-    (cond (code == 13) (Some Pop)
-    (cond (code == 14) (Some Keep)
-    (cond (code == 15) (Some Fetch)
-    (cond (code == 16) (Some Revoke)
-    (cond (code == 17) (Some Panel)
-    None))))))))))))))))
+    if code == 1 then Some Set
+    else if code == 2 then Some Add
+    else if code == 3 then Some Load
+    else if code == 4 then Some Store
+    else if code == 5 then Some Jump
+    else if code == 6 then Some Call
+    else if code == 7 then Some Return
+    else if code == 8 then Some Branch
+    else if code == 9 then Some Make
+    else if code == 10 then Some Cut
+    else if code == 11 then Some Drop
+    else if code == 12 then Some Push
+    else if code == 13 then Some Pop
+    else if code == 14 then Some Keep
+    else if code == 15 then Some Fetch
+    else if code == 16 then Some Revoke
+    else if code == 17 then Some Panel
+    else None
+
+-- that instruction, or the refusal of a code that names none
+abbrev pub op_named : ℕ → Result Op Refusal
+op_named code = ok_or (op_of code) UnknownCode
 
 abbrev pub fields : Field → Field → Field → Field → Form
 fields a b c v = record { a = a; b = b; c = c; v = v }
@@ -70,11 +77,20 @@ fitting d =
 abbrev pub shaped : Option Op → ℕ → ℕ → ℕ → ℕ → Result Decoded Refusal
 shaped None a b c v = Err UnknownCode
 shaped (Some op) a b c v =
-    cond (fitting (record { op = op; a = a; b = b; c = c; v = v })) (Ok (record { op = op; a = a; b = b; c = c; v = v })) (Err FieldRange)
+    if fitting (record { op = op; a = a; b = b; c = c; v = v }) then Ok (record { op = op; a = a; b = b; c = c; v = v }) else Err FieldRange
 
 abbrev pub number : List ℕ → ℕ
 number bs = slice_index bs 4 + slice_index bs 5 * 256 + slice_index bs 6 * 65536 + slice_index bs 7 * 16777216
 
 abbrev pub decoded : List ℕ → Result Decoded Refusal
 decoded bs =
-    cond (length bs == 8) (shaped (op_of (slice_index bs 0)) (slice_index bs 1) (slice_index bs 2) (slice_index bs 3) (number bs)) (Err RecordLength)
+    if length bs == 8 then shaped (op_of (slice_index bs 0)) (slice_index bs 1) (slice_index bs 2) (slice_index bs 3) (number bs) else Err RecordLength
+
+-- the eight bytes of a record
+abbrev pub encoded : Record → List ℕ
+encoded r =
+    r.op ∷ r.a ∷ r.b ∷ r.c ∷ (r.v % 256) ∷ (r.v / 256 % 256) ∷ (r.v / 65536 % 256) ∷ (r.v / 16777216 % 256) ∷ []
+
+-- what a record writes is read back as its fields
+abbrev pub ReadBack : Type 0
+ReadBack = (r : Record) → r.v < 2 ^ 32 → decoded (encoded r) ≡ shaped (op_of r.op) r.a r.b r.c r.v

@@ -1,12 +1,13 @@
 ghost use Rattle.std.specs.Prelude.{◌≡◌, true, IfOk, if◌then◌else◌, Ok, Err};
 ghost use Rattle.fault.specs.declared.refusal.Refusal.TheVariants.{FieldRange};
-ghost use Rattle.instruction.specs.Decoding.{decoded, fitting};
+ghost use Rattle.instruction.specs.Decoding.{ReadBack, decoded, fitting};
 
 use crate::op::Op;
 use fault::refusal::Refusal;
 
 // An instruction with its fields. In what `decode` answers, each is in its range.
-#[derive(Clone, Copy)]
+// Kept: a type beside `Record`, whose op is any byte; one type over both would say `Record<Op>` wherever an instruction is meant.
+#[derive(Clone, Copy, PartialEq, Eq, Debug)]
 pub struct Decoded {
     pub op: Op,
     pub a: u8,
@@ -16,23 +17,23 @@ pub struct Decoded {
 }
 
 // The instruction of a record, or the first of refusals 1 to 3.
+#[tactic(auto, using(crate::proofs::Records::read_back))]
 pub fn decode(bytes: &[u8]) -> Result<Decoded, Refusal>
     ensures value { result ≡ decoded bytes.now }
     ensures fitting { IfOk result (λ d. fitting d ≡ true) }
+    ensures read_back { ReadBack }
 {
     match bytes {
         [code, a, b, c, v0, v1, v2, v3] => {
             let v = u32::from_le_bytes([*v0, *v1, *v2, *v3]);
-            match Op::named(*code) {
-                Some(op) => shape(Decoded {
-                    op,
-                    a: *a,
-                    b: *b,
-                    c: *c,
-                    v,
-                }),
-                None => Err(Refusal::UnknownCode),
-            }
+            let op = Op::try_from(*code)?;
+            shape(Decoded {
+                op,
+                a: *a,
+                b: *b,
+                c: *c,
+                v,
+            })
         }
         _ => Err(Refusal::RecordLength),
     }

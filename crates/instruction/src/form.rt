@@ -2,9 +2,10 @@ ghost use Rattle.std.specs.Prelude.{◌≡◌};
 ghost use Rattle.instruction.specs.Decoding.{fits, form_of};
 
 use crate::op::Op;
+use Field::{Any, Counter, Grant, Part, Register, Unused};
 
 // What a field holds, and so which numbers it may have.
-#[derive(Clone, Copy)]
+#[derive(Clone, Copy, PartialEq, Eq, Debug)]
 pub enum Field {
     // Nothing: it has to be 0.
     Unused,
@@ -21,7 +22,7 @@ pub enum Field {
 }
 
 // The fields of an instruction.
-#[derive(Clone, Copy)]
+#[derive(Clone, Copy, PartialEq, Eq, Debug)]
 pub struct Form {
     pub a: Field,
     pub b: Field,
@@ -37,7 +38,7 @@ impl Field {
         match self {
             Field::Unused => n == 0,
             Field::Register => n < 8,
-            Field::Counter => 1 <= n && n <= 16,
+            Field::Counter => (1..=16).contains(&n),
             Field::Any => true,
             Field::Grant => n % 4 != 0 && n / 4 <= 16,
             Field::Part => n % 4 != 0 && n / 4 < 8,
@@ -51,45 +52,15 @@ impl Op {
         ensures { result ≡ form_of self }
     {
         match self {
-            Op::Set | Op::Branch => fields(
-                Field::Register,
-                Field::Unused,
-                Field::Unused,
-                Field::Any,
-            ),
-            Op::Add => fields(
-                Field::Register,
-                Field::Register,
-                Field::Unused,
-                Field::Unused,
-            ),
-            Op::Load | Op::Store | Op::Keep | Op::Fetch => fields(
-                Field::Register,
-                Field::Register,
-                Field::Unused,
-                Field::Any,
-            ),
-            Op::Jump | Op::Call => fields(Field::Unused, Field::Unused, Field::Unused, Field::Any),
-            Op::Return => fields(Field::Unused, Field::Unused, Field::Unused, Field::Unused),
-            Op::Make => fields(
-                Field::Register,
-                Field::Register,
-                Field::Register,
-                Field::Grant,
-            ),
-            Op::Cut => fields(
-                Field::Register,
-                Field::Register,
-                Field::Register,
-                Field::Part,
-            ),
-            Op::Drop | Op::Push | Op::Pop | Op::Panel => fields(
-                Field::Register,
-                Field::Unused,
-                Field::Unused,
-                Field::Unused,
-            ),
-            Op::Revoke => fields(Field::Counter, Field::Unused, Field::Unused, Field::Unused),
+            Op::Set | Op::Branch => fields(Register, Unused, Unused, Any),
+            Op::Add => fields(Register, Register, Unused, Unused),
+            Op::Load | Op::Store | Op::Keep | Op::Fetch => fields(Register, Register, Unused, Any),
+            Op::Jump | Op::Call => fields(Unused, Unused, Unused, Any),
+            Op::Return => fields(Unused, Unused, Unused, Unused),
+            Op::Make => fields(Register, Register, Register, Grant),
+            Op::Cut => fields(Register, Register, Register, Part),
+            Op::Drop | Op::Push | Op::Pop | Op::Panel => fields(Register, Unused, Unused, Unused),
+            Op::Revoke => fields(Counter, Unused, Unused, Unused),
         }
     }
 }

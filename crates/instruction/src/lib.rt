@@ -4,3 +4,4 @@
 pub mod decode;
 pub mod form;
 pub mod op;
+pub mod record;

@@ -1,8 +1,10 @@
-ghost use Rattle.std.specs.Prelude.{◌≡◌};
-ghost use Rattle.instruction.specs.Decoding.{op_of};
+ghost use Rattle.std.specs.Prelude.{◌≡◌, Some};
+ghost use Rattle.instruction.specs.Decoding.{op_named, op_of};
+
+use fault::refusal::Refusal;
 
 // The instructions, in the order of their codes.
-#[derive(Clone, Copy)]
+#[derive(Clone, Copy, PartialEq, Eq, Debug)]
 pub enum Op {
     Set,
     Add,
@@ -23,30 +25,59 @@ pub enum Op {
     Panel,
 }
 
-impl Op {
-    // The instruction of a code, 1 to 17.
-    pub fn named(code: u8) -> Option<Op>
-        ensures { result ≡ op_of code }
-    {
+// The instruction of a code, 1 to 17.
+impl TryFrom<u8> for Op {
+    type Error = Refusal;
+
+    ghost try_from_gives = { λ code op. op ≡ op_named code };
+
+    fn try_from(code: u8) -> Result<Op, Refusal> {
         match code {
-            1 => Some(Op::Set),
-            2 => Some(Op::Add),
-            3 => Some(Op::Load),
-            4 => Some(Op::Store),
-            5 => Some(Op::Jump),
-            6 => Some(Op::Call),
-            7 => Some(Op::Return),
-            8 => Some(Op::Branch),
-            9 => Some(Op::Make),
-            10 => Some(Op::Cut),
-            11 => Some(Op::Drop),
-            12 => Some(Op::Push),
-            13 => Some(Op::Pop),
-            14 => Some(Op::Keep),
-            15 => Some(Op::Fetch),
-            16 => Some(Op::Revoke),
-            17 => Some(Op::Panel),
-            _ => None,
+            1 => Ok(Op::Set),
+            2 => Ok(Op::Add),
+            3 => Ok(Op::Load),
+            4 => Ok(Op::Store),
+            5 => Ok(Op::Jump),
+            6 => Ok(Op::Call),
+            7 => Ok(Op::Return),
+            8 => Ok(Op::Branch),
+            9 => Ok(Op::Make),
+            10 => Ok(Op::Cut),
+            11 => Ok(Op::Drop),
+            12 => Ok(Op::Push),
+            13 => Ok(Op::Pop),
+            14 => Ok(Op::Keep),
+            15 => Ok(Op::Fetch),
+            16 => Ok(Op::Revoke),
+            17 => Ok(Op::Panel),
+            _ => Err(Refusal::UnknownCode),
+        }
+    }
+}
+
+// The code that names the instruction.
+impl From<Op> for u8 {
+    ghost from_gives = { λ op code. op_of code ≡ Some op };
+
+    fn from(op: Op) -> u8 {
+        match op {
+            Op::Set => 1,
+            Op::Add => 2,
+            Op::Load => 3,
+            Op::Store => 4,
+            Op::Jump => 5,
+            Op::Call => 6,
+            Op::Return => 7,
+            Op::Branch => 8,
+            Op::Make => 9,
+            Op::Cut => 10,
+            Op::Drop => 11,
+            Op::Push => 12,
+            Op::Pop => 13,
+            Op::Keep => 14,
+            Op::Fetch => 15,
+            Op::Revoke => 16,
+            Op::Panel => 17,
         }
     }
 }

@@ -1,6 +1,7 @@
 //! Stores a label in a joint memory over two areas of the host, reads it back, and shows a refusal.
 #![tactic(auto)]
 
+use fault::report::Fault;
 use memory::Memory;
 use memory::block::store;
 use memory::flat::Flat;
@@ -10,14 +11,23 @@ use memory::nibble::Nibble;
 // Prints the memory's bytes as text, an unused byte as a dot.
 fn show<M: Memory>(rt: &HostRuntime, memory: &M) -> anyhow::Result<()> {
     let mut text = String::new(rt.alloc());
+    // Kept: a memory is read by address alone, and lends no slice to walk over.
     for address in 0..memory.size() {
-        match memory.read(address) {
-            Ok(0) => text.push('.')?,
-            Ok(byte) => text.push(char::from(byte))?,
-            Err(_) => {}
-        }
+        text.push(match memory.read(address)? {
+            0 => '.',
+            byte => char::from(byte),
+        })?;
     }
     rt.println(text.as_str())?;
+    Ok(())
+}
+
+// Prints what was done, or the refusal.
+fn tell(rt: &HostRuntime, answer: Result<(), Fault>, done: &str) -> anyhow::Result<()> {
+    match answer {
+        Ok(()) => println!(rt; "{done}")?,
+        Err(fault) => println!(rt; "{fault}")?,
+    }
     Ok(())
 }
 
@@ -27,15 +37,10 @@ fn run(rt: &HostRuntime) -> anyhow::Result<()> {
     let mut label = Joint::new(Flat::new(&mut first), Nibble::new(&mut second));
     let size = label.size();
     println!(rt; "label memory of {size} bytes: 16 flat, 12 in halves")?;
-    match store(&mut label, 4, b"ROLL 7: 80 x 40 mm") {
-        Ok(()) => println!(rt; "stored 18 bytes at 4")?,
-        Err(fault) => println!(rt; "{fault}")?,
-    }
+    let answer = store(&mut label, 4, b"ROLL 7: 80 x 40 mm");
+    tell(rt, answer, "stored 18 bytes at 4")?;
     show(rt, &label)?;
-    match label.write(28, 33) {
-        Ok(()) => println!(rt; "stored a byte at 28")?,
-        Err(fault) => println!(rt; "{fault}")?,
-    }
+    tell(rt, label.write(28, 33), "stored a byte at 28")?;
     let (flat, halves) = label.into_parts();
     show(rt, &flat)?;
     show(rt, &halves)?;

@@ -15,12 +15,6 @@ use Rattle.plan.specs.Tables.{Planned}
 use Rattle.std.proofs.lemmas.Bool.{and_from, and_parts, cases_eq, cond-false, eq-eqb, eqb-true, le-leb, lt-ltb, ltb-true, ne_eqb, or_cases}
 use Rattle.machine.proofs.Passing.{both_passed, demand_passed}
 
-positive : (k : ℕ) → (k ≡ 0 → ⊥) → 0 < k
-positive k z = omega arith
-
-zero_positive : (k : ℕ) → 0 < k → k ≡ 0 → ⊥
-zero_positive k l e = omega arith
-
 pub formed-right : (g : Right) → spans g.base g.size ≡ true → 0 < rank_of g.level → formed g ≡ true
 formed-right g e l = and_from (spans g.base g.size) _ e (le-leb 1 (rank_of g.level) l)
 
@@ -39,7 +33,7 @@ fine-made p c g k f h e =
     let x = both_passed (owned_by p c k (tag_now p c)) (unspent c k) (e ∙ cond-false (eqb k 0) (Ok tt) (and_then (owned_by p c k (tag_now p c)) (unspent c k)) (ne_eqb k 0 z)) in
     let u = ltb-true (reading_of c.counters k) 999999 (demand_passed c CounterSpent (ltb (reading_of c.counters k) 999999) x.1) in
     ap (λ b. fine c.counters (cond b (Short g (depth c)) (Counted g k (reading_of c.counters k)))) (ne_eqb k 0 z)
-    ∙ fine-counted c.counters g k f (positive k z) h u)
+    ∙ fine-counted c.counters g k f (omega arith) h u)
     (cases_eq k 0)
 
 pub fine-cut : (ks : List Counter) (x : Right) (h : Holding) → formed x ≡ true → fine ks h ≡ true → fine ks (cut x h) ≡ true
@@ -54,7 +48,7 @@ settled-raised owner x l e u =
     and_from (leb (x.reading + 1) 999999) _ (le-leb (x.reading + 1) 999999 (omega arith))
     (⊎_elim
     (λ i. ap (λ b. b || (eqb owner 0 && ltb (x.reading + 1) 999999)) i)
-    (λ o. absurd (zero_positive owner l (eqb-true owner 0 (and_parts (eqb owner 0) _ o).0)))
+    (λ o. absurd (omega (arith, l, eqb-true owner 0 (and_parts (eqb owner 0) _ o).0)))
     (or_cases (not x.out) (eqb owner 0 && ltb x.reading 999999) q))
 
 pub fine-content : (c : Core) → Fine c.counters c.slots → (o : Option ℕ) → fine c.counters (content c o) ≡ true

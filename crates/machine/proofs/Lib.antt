@@ -1,11 +1,9 @@
 pub mod Bounds
 pub mod Fines
-pub mod InUse
 pub mod Ladders
 pub mod Lawful
 pub mod Laws
 pub mod Lending
-pub mod Lowest
 pub mod Machines
 pub mod Passing
 pub mod Sounds

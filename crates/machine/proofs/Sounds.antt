@@ -9,7 +9,7 @@ use Rattle.capability.specs.declared.holding.Holding.TheVariants.{Empty, Short, 
 use Rattle.machine.specs.Checks.{is_short}
 use Rattle.machine.specs.Rules.{called_engine, frame_now, returned_engine}
 use Rattle.machine.specs.Sound.{Grounded, Sound, fine, formed, settled}
-use Rattle.machine.specs.State.{Core, counted, depth, holding, moved, no_frame, on, place_of, run, slotted, stacked, started, told}
+use Rattle.machine.specs.State.{Core, counted, depth, holding, moved, no_frame, place_of, run, slotted, stacked, started, told}
 use Rattle.machine.specs.declared.frame.Frame.{Frame}
 use Rattle.plan.proofs.Each.{each_same, each_set}
 use Rattle.plan.specs.Chart.{has_bit}
@@ -71,9 +71,6 @@ ground_on p a g l =
 module _ (p : Planned) (c : Core) (s : Sound p c) where
   pub sound_moved : (to : ℕ) → Grounded p to → Sound p (moved to c)
   sound_moved to g = (g, s.1, s.2, s.3, s.4, s.5, s.6)
-
-  pub sound_on : (place_of c % 256 ≡ 252 → ⊥) → Sound p (on c)
-  sound_on l = sound_moved (place_of c + 4) (ground_on p (place_of c) s.0 l)
 
   pub sound_told : (r : ℕ) (e : Event) → fine c.counters (after (holding c r) e) ≡ true → Sound p (told r e c)
   sound_told r e f =

@@ -1,9 +1,9 @@
 -- What a call asks of the memory and makes of the rest, and what it then comes to. Assumes nothing.
-use Rattle.std.specs.Prelude.{ℕ, List, Ok, Err, Result, slice_set}
+use Rattle.std.specs.Prelude.{◌≡◌, ℕ, ◌+◌, List, Ok, Err, Result, slice_set}
 use Rattle.fault.specs.Faults.{placed_at}
 use Rattle.fault.specs.declared.report.Fault.{Fault}
 use Rattle.machine.specs.Checks.{Check}
-use Rattle.machine.specs.State.{Core, State, place_of, valued}
+use Rattle.machine.specs.State.{Core, State, on, place_of, valued}
 use Rattle.machine.specs.declared.answer.Done.{Done}
 use Rattle.memory.specs.Meaning.{read_of, write_of}
 
@@ -61,3 +61,18 @@ stepped s x = state_of s (outcome s x)
 
 abbrev pub said : State → Action → Result Done Fault
 said s x = answer_of (outcome s x)
+
+-- a call from one state to another, with its answer, does what an action says
+pub record Does (s t : State) (result : Result Done Fault) (x : Action) : Type 0 where
+  pub after : t ≡ stepped s x
+  pub answer : result ≡ said s x
+
+-- the state once the machine has gone on to the next place
+abbrev pub gone_on : State → State
+gone_on s = record { plan = s.plan; core = on s.core; bytes = s.bytes }
+
+-- an effect with its value does what an action says, but for going on; a refusal is the action's, and changes nothing
+abbrev pub Yields : State → State → Result ℕ Fault → Action → Type 0
+Yields s t (Ok v) x =
+    (place_of t.core ≡ place_of s.core) × Does s (gone_on t) (Ok (record { place = place_of s.core + 4; value = v })) x
+Yields s t (Err f) x = (t ≡ s) × Does s t (Err f) x

@@ -1,5 +1,5 @@
 -- The checks that instructions and host calls share. Assumes nothing.
-use Rattle.std.specs.Prelude.{ℕ, ◌%◌, Bool, true, false, cond, not, Some, None, Ok, Err, Option, Result, ◌==◌, nat_lt}
+use Rattle.std.specs.Prelude.{ℕ, ◌%◌, Bool, true, false, if◌then◌else◌, not, Some, None, Ok, Err, Option, Result, ◌==◌, nat_lt}
 use Rattle.capability.specs.Holdings.{raised, reading_of, spans}
 use Rattle.capability.specs.declared.holding.Holding.{Holding}
 use Rattle.capability.specs.declared.holding.Holding.TheVariants.{Empty, Short, Counted}
@@ -24,7 +24,7 @@ and_then (Err f) x = Err f
 
 -- a test that refuses with a bare fault
 abbrev pub demand : Core → Refusal → Bool → Check
-demand c refusal test = cond test (Ok tt) (Err (bare_fault refusal (place_of c)))
+demand c refusal test = if test then Ok tt else Err (bare_fault refusal (place_of c))
 
 abbrev pub addressed : Core → ℕ → Check
 addressed c a = demand c AddressRange (nat_lt a 32768)
@@ -32,9 +32,13 @@ addressed c a = demand c AddressRange (nat_lt a 32768)
 abbrev pub aligned : Core → ℕ → ℕ → Check
 aligned c n a = demand c Misaligned (a % n == 0)
 
+-- the level that tag t's list gives at a
+abbrev pub listed : Planned → ℕ → ℕ → Level
+listed p t a = level_for p t (tag_at p a)
+
 -- the greatest of the current tag's level and those of the live registers that cover all n bytes from a on
 abbrev pub level_at : Planned → Core → ℕ → ℕ → Level
-level_at p c a n = raised c.counters a n (level_for p (tag_now p c) (tag_at p a)) c.engine.registers
+level_at p c a n = raised c.counters a n (listed p (tag_now p c) a) c.engine.registers
 
 -- what a fault of an access tells
 abbrev pub access_at : Planned → ℕ → Level → Access
@@ -48,9 +52,13 @@ judged c x (Some refusal) = Err (access_fault refusal (place_of c) x)
 abbrev pub judgement : Planned → Core → Question → ℕ → ℕ → Check
 judgement p c q a n = judged c (access_at p a (level_at p c a n)) (decides p q a (level_at p c a n))
 
+-- what the n bytes from a on need, where a has to be a multiple of m: 5, 7, chart
+abbrev pub access_check : Planned → Core → Question → ℕ → ℕ → ℕ → Check
+access_check p c q a m n = and_then (addressed c a) (and_then (aligned c m a) (judgement p c q a n))
+
 -- what entering at a needs: 5, 7, chart
 abbrev pub entrance : Planned → Core → ℕ → Check
-entrance p c a = and_then (addressed c a) (and_then (aligned c 4 a) (judgement p c (entry_at p a) a 1))
+entrance p c a = access_check p c (entry_at p a) a 4 1
 
 -- what a byte needs of the machine: 5, chart
 abbrev pub byte_check : Planned → Core → Question → ℕ → Check
@@ -58,7 +66,7 @@ byte_check p c q a = and_then (addressed c a) (judgement p c q a 1)
 
 -- what a slot needs: 5, 7, chart
 abbrev pub slot_check : Planned → Core → Question → ℕ → Check
-slot_check p c q a = and_then (addressed c a) (and_then (aligned c 32 a) (judgement p c q a 32))
+slot_check p c q a = access_check p c q a 32 32
 
 abbrev pub frame_room : Core → Check
 frame_room c = demand c StackFull (nat_lt (depth c) 32)

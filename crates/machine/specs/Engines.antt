@@ -1,18 +1,18 @@
 -- The engine and the core that the code's tables stand for. Assumes nothing.
-use Rattle.std.specs.Prelude.{ℕ, List, take}
+use Rattle.std.specs.Prelude.{ℕ, List}
 use Rattle.capability.specs.declared.counter.Counter.{Counter}
 use Rattle.capability.specs.declared.holding.Holding.{Holding}
 use Rattle.machine.specs.State.{Core, EngineState}
 use Rattle.machine.specs.declared.engine.Engine.{Engine}
 
--- what lies beyond the depth and the height is no part of the state
+-- the frames and the capability stack are those in use
 abbrev pub engine_of : Engine → EngineState
 engine_of e = record {
   place = e.place;
   values = e.values;
   registers = e.registers.held;
-  frames = take e.depth e.frames;
-  stack = take e.height e.stack;
+  frames = e.frames.items;
+  stack = e.stack.items;
   floor = e.floor;
 }
 

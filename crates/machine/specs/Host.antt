@@ -1,5 +1,5 @@
 -- The host's calls DEPOSIT, LEND and RECALL. Assumes nothing.
-use Rattle.std.specs.Prelude.{ℕ, ◌+◌, Bool, true, false, cond, not, ◌&&◌, is_some, Ok, Err, Result, ◌==◌, nat_le, nat_lt, slice_index_or}
+use Rattle.std.specs.Prelude.{ℕ, ◌+◌, Bool, true, false, if◌then◌else◌, not, ◌&&◌, is_some, Ok, Err, Result, ◌==◌, nat_le, nat_lt, slice_index_or}
 use Rattle.capability.specs.Holdings.{fresh, reading_of}
 use Rattle.capability.specs.declared.counter.Counter.{Counter}
 use Rattle.capability.specs.declared.holding.Event.TheVariants.{Took}
@@ -22,7 +22,7 @@ use Rattle.std.specs.Option.{unwrap_or}
 -- DEPOSIT: writes one byte; 5, 8 (S page), 6
 abbrev pub kind_check : Planned → Core → ℕ → Check
 kind_check p c a =
-    cond (has_bit 16 (page_at p a).bits) (Err (access_fault WrongPageKind (place_of c) (access_at p a Nothing))) (Ok tt)
+    if has_bit 16 (page_at p a).bits then Err (access_fault WrongPageKind (place_of c) (access_at p a Nothing)) else Ok tt
 
 abbrev pub deposit_rule : Planned → Core → ℕ → ℕ → Action
 deposit_rule p c a b = check (addressed c a) (check (kind_check p c a) (write_byte a b c))
@@ -35,7 +35,7 @@ abbrev pub due : Core → ℕ → ℕ → Bool
 due c k n = nat_le 1 k && (nat_le k 16 && ((counter_at c k).out && (counter_at c k).reading == n))
 
 abbrev pub recall_rule : Core → ℕ → ℕ → Action
-recall_rule c k n = cond (due c k n) (go (counted k (record { reading = n + 1; out = false }) c) 1) (go c 0)
+recall_rule c k n = if due c k n then go (counted k (record { reading = n + 1; out = false }) c) 1 else go c 0
 
 -- what a loan on counter k to register r needs: 3, 14, 17, 20, 19
 abbrev pub lend_check : Planned → Core → ℕ → ℕ → ℕ → ℕ → ℕ → Check

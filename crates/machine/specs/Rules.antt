@@ -1,5 +1,5 @@
 -- The seventeen instructions: each one's checks in order, then its effect and its value. Assumes nothing.
-use Rattle.std.specs.Prelude.{ℕ, zero, suc, ◌+◌, ◌-◌, ◌*◌, ◌/◌, ◌%◌, ◌^◌, max, Bool, true, false, cond, not, ◌&&◌, ◌||◌, List, [], ◌∷◌, ◌++◌, map, length, take, ℤ, pos, negsuc, ◌+ℤ◌, ◌*ℤ◌, Some, None, Ok, Err, Option, Result, ◌==◌, nat_le, nat_lt, slice_index_or}
+use Rattle.std.specs.Prelude.{ℕ, ◌+◌, ◌-◌, ◌*◌, ◌/◌, ◌%◌, ◌^◌, max, Bool, true, false, if◌then◌else◌, not, ◌&&◌, ◌||◌, List, [], ◌∷◌, ◌++◌, map, length, take, ℤ, pos, negsuc, ◌+ℤ◌, ◌*ℤ◌, Some, None, Ok, Err, Option, Result, ◌==◌, nat_le, nat_lt, slice_index_or}
 use Rattle.std.specs.Int.{w32}
 use Rattle.std.proofs.Common.{to_z}
 use Rattle.capability.specs.Holdings.{after, empty, fresh, granted, reading_of}
@@ -19,11 +19,12 @@ use Rattle.instruction.specs.declared.decode.Decoded.{Decoded}
 use Rattle.instruction.specs.declared.op.Op.{Op}
 use Rattle.instruction.specs.declared.op.Op.TheVariants.{Set, Add, Load, Store, Jump, Call, Return, Branch, Make, Cut, Drop, Push, Pop, Keep, Fetch, Revoke, Panel}
 use Rattle.machine.specs.Actions.{Action, check, go, read_byte, refuse, write_byte}
-use Rattle.machine.specs.Checks.{Check, above_floor, access_at, and_then, byte_check, demand, entrance, frame_room, frame_there, lasts, owned_by, privileged, slot_check, span_check, stack_room, unspent}
+use Rattle.machine.specs.Checks.{Check, above_floor, access_at, and_then, byte_check, demand, entrance, frame_room, frame_there, lasts, listed, owned_by, privileged, slot_check, span_check, stack_room, unspent}
 use Rattle.machine.specs.State.{Core, EngineState, counted, depth, height, holding, moved, no_frame, on, place_of, run, shown, slotted, stacked, tag_now, told, value, valued}
 use Rattle.machine.specs.declared.frame.Frame.{Frame}
-use Rattle.plan.specs.Tables.{Planned, level_for, slot_at, tag_at}
+use Rattle.plan.specs.Tables.{Planned, slot_at}
 use Rattle.plan.specs.declared.chart.Question.TheVariants.{Load as AskLoad, Store as AskStore, Fetch as AskFetch, Keep as AskKeep}
+use Rattle.std.specs.List.{find, range_with_len}
 use Rattle.std.specs.Option.{unwrap_or}
 
 -- 1 SET: register a becomes v
@@ -89,27 +90,25 @@ landing p c None = refuse (bare_fault AddressRange (place_of c))
 landing p c (Some to) = jump_rule p c to
 
 abbrev pub branch_rule : Planned → Core → ℕ → ℕ → Action
-branch_rule p c a v = cond (value c a == 0) (landing p c (target (place_of c) v)) (go (on c) 0)
+branch_rule p c a v = if value c a == 0 then landing p c (target (place_of c) v) else go (on c) 0
 
 -- 9 MAKE: 14; for a counted life 17 and 19; 10 at the lowest page whose list level is below the wanted one
 abbrev pub right_of : ℕ → ℕ → Level → Right
 right_of base size level = record { base = base; size = size; level = level }
 
 abbrev pub life_check : Planned → Core → ℕ → Check
-life_check p c life = cond (life == 0) (Ok tt) (and_then (owned_by p c life (tag_now p c)) (unspent c life))
+life_check p c life = if life == 0 then Ok tt else and_then (owned_by p c life (tag_now p c)) (unspent c life)
 
 -- of n pages from page k on, the lowest for which tag t has less than the level
 abbrev pub lowest_below : Planned → ℕ → Level → ℕ → ℕ → Option ℕ
-lowest_below p t level k zero = None
-lowest_below p t level k (suc n) =
-    cond (nat_lt (rank_of (level_for p t (tag_at p (256 * k)))) (rank_of level)) (Some k) (lowest_below p t level (k + 1) n)
+lowest_below p t level k n = find (λ j. nat_lt (rank_of (listed p t (256 * j))) (rank_of level)) (range_with_len k n)
 
 abbrev pub pages_touched : ℕ → ℕ → ℕ
 pages_touched base size = (base + size - 1) / 256 + 1 - base / 256
 
 abbrev pub list_judged : Planned → Core → ℕ → Option ℕ → Check
 list_judged p c base None = Ok tt
-list_judged p c base (Some k) = Err (access_fault LevelTooLow (place_of c) (access_at p (max base (256 * k)) (level_for p (tag_now p c) (tag_at p (256 * k)))))
+list_judged p c base (Some k) = Err (access_fault LevelTooLow (place_of c) (access_at p (max base (256 * k)) (listed p (tag_now p c) (256 * k))))
 
 abbrev pub list_check : Planned → Core → Right → Check
 list_check p c x = list_judged p c x.base (lowest_below p (tag_now p c) x.level (x.base / 256) (pages_touched x.base x.size))
@@ -118,7 +117,7 @@ abbrev pub make_check : Planned → Core → Right → ℕ → Check
 make_check p c x life = and_then (span_check c x.base x.size) (and_then (life_check p c life) (list_check p c x))
 
 abbrev pub made : Core → Right → ℕ → Holding
-made c right life = cond (life == 0) (Short right (depth c)) (Counted right life (reading_of c.counters life))
+made c right life = if life == 0 then Short right (depth c) else Counted right life (reading_of c.counters life)
 
 abbrev pub make_rule : Planned → Core → ℕ → Right → ℕ → Action
 make_rule p c a x life = check (make_check p c x life) (go (told a (Took (made c x life)) (on c)) 0)
@@ -128,7 +127,7 @@ abbrev pub within : Right → Right → Bool
 within x g = nat_le g.base x.base && (nat_le (x.base + x.size) (g.base + g.size) && nat_le (rank_of x.level) (rank_of g.level))
 
 abbrev pub part_check : Planned → Core → Right → Right → Check
-part_check p c x g = cond (within x g) (Ok tt) (Err (access_fault LevelTooLow (place_of c) (access_at p x.base g.level)))
+part_check p c x g = if within x g then Ok tt else Err (access_fault LevelTooLow (place_of c) (access_at p x.base g.level))
 
 abbrev pub cut : Right → Holding → Holding
 cut x Empty = Empty
@@ -228,8 +227,11 @@ leaves c Fetch a = false
 leaves c Revoke a = false
 leaves c Panel a = false
 
+abbrev pub has_room : Core → Op → ℕ → Bool
+has_room c op a = not (place_of c % 256 == 252) || leaves c op a
+
 abbrev pub room_check : Core → Op → ℕ → Check
-room_check c op a = demand c PageEnd (not (place_of c % 256 == 252) || leaves c op a)
+room_check c op a = demand c PageEnd (has_room c op a)
 
 -- OBEY: 1 to 3 by the decoder, 4, then the row
 abbrev pub obey_decoded : Planned → Core → Result Decoded Refusal → Action

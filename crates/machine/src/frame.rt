@@ -1,5 +1,5 @@
 // What CALL keeps for RETURN: the place to return to and the floor before the call.
-#[derive(Clone, Copy)]
+#[derive(Clone, Copy, Default)]
 pub struct Frame {
     pub place: usize,
     pub floor: usize,

@@ -1,4 +1,3 @@
-ghost use Rattle.std.specs.Prelude.{◌≡◌, length};
 ghost use Rattle.machine.specs.Engines.{engine_of};
 ghost use Rattle.machine.specs.Sound.{Fine, Grounded, GroundedAll, Lasting, Settled};
 ghost use Rattle.plan.specs.Model.{planned};
@@ -18,6 +17,18 @@ pub mod obey;
 pub mod seal;
 pub mod values;
 
+// How many addresses there are.
+pub(crate) const ADDRESSES: usize = 32_768;
+
+// How many addresses a page has.
+pub(crate) const PAGE: usize = 256;
+
+// The last place of a page, counted from its start.
+pub(crate) const LAST_PLACE: usize = 252;
+
+// The greatest reading of a counter.
+pub(crate) const LAST_READING: u32 = 999_999;
+
 // A machine over a memory of any make. Slots stand eight to an S page, in the order in which those were
 // planned; counters stand under their numbers, and place 0 is unused.
 #[derive(Drop)]
@@ -28,8 +39,6 @@ pub struct Machine<M> {
     pub(crate) panel: u32,
     pub(crate) plan: Plan,
     pub(crate) memory: M,
-    ghost slots64: { length slots ≡ 64 },
-    ghost counters17: { length counters ≡ 17 },
     ghost grounded: { Grounded (planned plan) engine.place },
     ghost returns: { GroundedAll (planned plan) (engine_of engine).frames },
     ghost registers_fine: { Fine counters (engine_of engine).registers },

@@ -1,4 +1,2 @@
-pub mod Checked
 pub mod Cut
 pub mod Halves
-pub mod Laying

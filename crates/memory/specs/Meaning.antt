@@ -1,5 +1,5 @@
 -- What a memory means: a list of bytes, and what reading and writing answer of it. Assumes nothing.
-use Rattle.std.specs.Prelude.{ℕ, zero, suc, ◌+◌, ◌*◌, ◌%◌, ◌≤◌, cond, List, [], ◌∷◌, length, take, Ok, Err, Result, nat_lt, slice_index, slice_set}
+use Rattle.std.specs.Prelude.{ℕ, zero, suc, ◌+◌, ◌*◌, ◌%◌, ◌≤◌, if◌then◌else◌, List, [], ◌∷◌, length, take, Ok, Err, Result, nat_lt, slice_index, slice_set}
 use Rattle.std.proofs.Common.{arith, length-take}
 use Rattle.fault.specs.Faults.{memory_fault}
 use Rattle.fault.specs.declared.report.Fault.{Fault}
@@ -10,7 +10,7 @@ outside a n = memory_fault 0 (record { address = a; size = n })
 
 -- x, if a is an address of the list, else the refusal
 abbrev pub checked : {X : Type 0} → List ℕ → ℕ → X → Result X Fault
-checked xs a x = cond (nat_lt a (length xs)) (Ok x) (Err (outside a (length xs)))
+checked xs a x = if nat_lt a (length xs) then Ok x else Err (outside a (length xs))
 
 abbrev pub read_of : List ℕ → ℕ → Result ℕ Fault
 read_of xs a = checked xs a (slice_index xs a)

@@ -1,8 +1,8 @@
-ghost use Rattle.std.specs.Prelude.{◌≡◌, ◌+◌, ◌^◌, ◌<◌, ◌≤◌, length};
-ghost use Rattle.memory.specs.Blocks.{block_of, laid, stored};
+ghost use Rattle.std.specs.Prelude.{◌≡◌, length};
+ghost use Rattle.memory.specs.Blocks.{block_of, stored};
 
-use crate::Memory;
-use fault::report::{Fault, Outside};
+use crate::{Memory, outside};
+use fault::report::Fault;
 
 // Writes a block of bytes from `start` on. A block that reaches past the end is refused whole, at its
 // first address outside, and nothing is written.
@@ -12,20 +12,10 @@ pub fn store<M: Memory>(memory: &mut M, start: usize, block: &[u8]) -> Result<()
 {
     let size = memory.size();
     if start > size || block.len() > size - start {
-        let address = start.max(size);
-        return Err(Fault::memory(0, Outside { address, size }));
+        return Err(outside(start.max(size), size));
     }
-    write_all(memory, start, block);
+    for (address, byte) in (start..size).zip(block) {
+        memory.write(address, *byte)?;
+    }
     Ok(())
-}
-
-// Writes each byte of a block that lies within the memory.
-fn write_all<M: Memory>(memory: &mut M, start: usize, block: &[u8])
-    requires within { start + length block.now ≤ length (M.bytes memory.old) }
-    requires fits { start + length block.now < 2 ^ 64 }
-    ensures { M.bytes memory.new ≡ laid (M.bytes memory.old) start block.now }
-{
-    for (i, byte) in block.iter().enumerate() {
-        let _ = memory.write(start + i, *byte);
-    }
 }

@@ -1,69 +1,42 @@
-ghost use Rattle.std.specs.Prelude.{◌≡◌, take};
-ghost use Rattle.memory.specs.Meaning.{read_of, write_of, wrote, take_within};
+ghost use Rattle.std.specs.Prelude.{◌≡◌, ◌<◌, ◌↔◌, length, take, IsSome, slice_get, slice_set};
+ghost use Rattle.memory.specs.Meaning.{take_within};
 
-use crate::Memory;
-use fault::report::{Fault, Outside};
-
-// The longest list of a flat memory.
-const LONGEST: usize = 32768;
+use crate::area::{Area, Packing};
 
 // The first bytes of the host's area, at most 32,768.
+pub type Flat<'a> = Area<'a, Whole>;
+
+// Each area byte is a byte.
 #[derive(Drop)]
-pub struct Flat<'a> {
-    area: &'a mut [u8],
-}
+pub struct Whole;
 
-impl<'a> Flat<'a> {
-    pub fn new(area: &'a mut [u8]) -> Flat<'a>
-        ensures { result.area.now ≡ area.old }
-    {
-        Self { area }
+impl Packing for Whole {
+    const MOST: usize = 32768;
+
+    ghost MOST = { 32768 };
+
+    ghost unpacked = { take 32768 };
+
+    ghost within = { take_within 32768 };
+
+    fn size(area: &[u8]) -> usize {
+        area.len().min(Self::MOST)
     }
 
-    // The host's area, with what was written in it.
-    pub fn into_area(self) -> &'a mut [u8]
-        ensures { result.now ≡ self.entry.area.now }
-    {
-        let Flat { area } = self;
-        area
-    }
-}
-
-impl<'a> Memory for Flat<'a> {
-    const MOST: usize = LONGEST;
-
-    ghost most = { 32768 };
-
-    ghost bytes = { λ s. take 32768 s.area.now };
-
-    ghost within = { λ s. take_within 32768 s.area.now };
-
-    fn longest() -> usize
-        ensures { result ≡ 32768 }
-    {
-        LONGEST
-    }
-
-    fn size(&self) -> usize {
-        self.area.len().min(LONGEST)
-    }
-
-    fn read(&self, address: usize) -> Result<u8, Fault> {
-        let size = self.size();
-        if address < size {
-            Ok(self.area[address])
+    fn get(area: &[u8], address: usize) -> Option<u8> {
+        if address < Self::size(area) {
+            Some(area[address])
         } else {
-            Err(Fault::memory(0, Outside { address, size }))
+            None
         }
     }
 
-    fn write(&mut self, address: usize, byte: u8) -> Result<(), Fault> {
-        let size = self.size();
-        if address < size {
-            self.area[address] = byte;
-            Ok(())
+    fn put(area: &mut [u8], address: usize, byte: u8) -> Option<()> {
+        if address < Self::size(area) {
+            area[address] = byte;
+            Some(())
         } else {
-            Err(Fault::memory(0, Outside { address, size }))
+            None
         }
     }
 }

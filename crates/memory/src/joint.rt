@@ -1,8 +1,8 @@
 ghost use Rattle.std.specs.Prelude.{◌≡◌, ◌++◌, take};
 ghost use Rattle.memory.specs.Meaning.{read_of, write_of, wrote, take_within};
 
-use crate::Memory;
-use fault::report::{Fault, Outside};
+use crate::{Memory, check};
+use fault::report::Fault;
 
 // The longest list of a joint memory.
 const LONGEST: usize = 32768;
@@ -51,11 +51,9 @@ impl<A: Memory, B: Memory> Memory for Joint<A, B> {
     }
 
     fn read(&self, address: usize) -> Result<u8, Fault> {
-        let size = self.size();
+        check(address, self.size())?;
         let low = self.low.size();
-        if address >= size {
-            Err(Fault::memory(0, Outside { address, size }))
-        } else if address < low {
+        if address < low {
             self.low.read(address)
         } else {
             self.high.read(address - low)
@@ -63,11 +61,9 @@ impl<A: Memory, B: Memory> Memory for Joint<A, B> {
     }
 
     fn write(&mut self, address: usize, byte: u8) -> Result<(), Fault> {
-        let size = self.size();
+        check(address, self.size())?;
         let low = self.low.size();
-        if address >= size {
-            Err(Fault::memory(0, Outside { address, size }))
-        } else if address < low {
+        if address < low {
             self.low.write(address, byte)
         } else {
             self.high.write(address - low, byte)

@@ -1,73 +1,46 @@
-ghost use Rattle.std.specs.Prelude.{◌≡◌};
-ghost use Rattle.memory.specs.Meaning.{read_of, write_of, wrote, join_halves, halves-within};
+ghost use Rattle.std.specs.Prelude.{◌≡◌, ◌<◌, ◌↔◌, length, IsSome, slice_get, slice_set};
+ghost use Rattle.memory.specs.Meaning.{join_halves, halves-within};
 
-use crate::Memory;
-use fault::report::{Fault, Outside};
+use crate::area::{Area, Packing};
 
-// The longest list of a nibble memory.
-const LONGEST: usize = 16384;
+// A memory of halves, at most 16,384 bytes.
+pub type Nibble<'a> = Area<'a, Halves>;
 
 // Two area bytes to a byte: the low half of byte a lies in area byte 2a, the high half in 2a + 1.
 // The upper halves of area bytes are ignored on reading and written as 0.
 #[derive(Drop)]
-pub struct Nibble<'a> {
-    area: &'a mut [u8],
-}
+pub struct Halves;
 
-impl<'a> Nibble<'a> {
-    pub fn new(area: &'a mut [u8]) -> Nibble<'a>
-        ensures { result.area.now ≡ area.old }
-    {
-        Self { area }
+impl Packing for Halves {
+    const MOST: usize = 16384;
+
+    ghost MOST = { 16384 };
+
+    ghost unpacked = { join_halves 16384 };
+
+    ghost within = { halves-within 16384 };
+
+    fn size(area: &[u8]) -> usize {
+        (area.len() / 2).min(Self::MOST)
     }
 
-    // The host's area, with what was written in it.
-    pub fn into_area(self) -> &'a mut [u8]
-        ensures { result.now ≡ self.entry.area.now }
-    {
-        let Nibble { area } = self;
-        area
-    }
-}
-
-impl<'a> Memory for Nibble<'a> {
-    const MOST: usize = LONGEST;
-
-    ghost most = { 16384 };
-
-    ghost bytes = { λ s. join_halves 16384 s.area.now };
-
-    ghost within = { λ s. halves-within 16384 s.area.now };
-
-    fn longest() -> usize
-        ensures { result ≡ 16384 }
-    {
-        LONGEST
-    }
-
-    fn size(&self) -> usize {
-        (self.area.len() / 2).min(LONGEST)
-    }
-
-    fn read(&self, address: usize) -> Result<u8, Fault> {
-        let size = self.size();
-        if address < size {
-            let low = self.area[2 * address] % 16;
-            let high = self.area[2 * address + 1] % 16;
-            Ok(low + 16 * high)
+    fn get(area: &[u8], address: usize) -> Option<u8> {
+        if address < Self::size(area) {
+            let low = area[2 * address] % 16;
+            let high = area[2 * address + 1] % 16;
+            Some(low + 16 * high)
         } else {
-            Err(Fault::memory(0, Outside { address, size }))
+            None
         }
     }
 
-    fn write(&mut self, address: usize, byte: u8) -> Result<(), Fault> {
-        let size = self.size();
-        if address < size {
-            self.area[2 * address] = byte % 16;
-            self.area[2 * address + 1] = byte / 16;
-            Ok(())
+    fn put(area: &mut [u8], address: usize, byte: u8) -> Option<()> {
+        if address < Self::size(area) {
+            area[2 * address] = byte % 16;
+            area[2 * address + 1] = byte / 16;
+            Some(())
         } else {
-            Err(Fault::memory(0, Outside { address, size }))
+            None
         }
     }
 }

@@ -1,6 +1,5 @@
 pub mod Answered
 pub mod Each
-pub mod Finding
 pub mod Plans
 pub mod Printed
 pub mod Slots

@@ -1,5 +1,5 @@
 -- The rule of the chart. Assumes nothing.
-use Rattle.std.specs.Prelude.{ℕ, ◌/◌, ◌%◌, Bool, true, false, cond, not, [], ◌∷◌, Some, None, Option, ◌==◌, nat_le, slice_index_or}
+use Rattle.std.specs.Prelude.{ℕ, ◌/◌, ◌%◌, Bool, true, false, if◌then◌else◌, not, ◌||◌, [], ◌∷◌, Some, None, Option, ◌==◌, nat_le, slice_index_or}
 use Rattle.fault.specs.Levels.{rank_of}
 use Rattle.fault.specs.Refusals.{number_of}
 use Rattle.fault.specs.declared.level.Level.{Level}
@@ -15,11 +15,12 @@ has_bit worth bits = bits / worth % 2 == 1
 
 -- the kind of page first, then the bit, then the level
 abbrev pub access_of : Bool → Bool → Bool → Option Refusal
-access_of kind bit high = cond kind (cond bit (cond high None (Some LevelTooLow)) (Some MissingBit)) (Some WrongPageKind)
+access_of kind bit high =
+    if kind then (if bit then (if high then None else Some LevelTooLow) else Some MissingBit) else Some WrongPageKind
 
 abbrev pub entry_of : Bool → Level → Bool → Option Refusal
 entry_of x level door =
-    cond x (cond (nat_le 1 (rank_of level)) (cond door None (cond (nat_le 2 (rank_of level)) None (Some NotADoor))) (Some LevelTooLow)) (Some MissingBit)
+    if x then (if nat_le 1 (rank_of level) then (if door || nat_le 2 (rank_of level) then None else Some NotADoor) else Some LevelTooLow) else Some MissingBit
 
 -- what is refused of a page with these bits at this level, if anything is
 abbrev pub decision : ℕ → Level → Question → Option Refusal
@@ -45,7 +46,7 @@ answer_of (Some r) = number_of r
 
 abbrev pub refusal_of : ℕ → Option Refusal
 refusal_of n =
-    cond (n == 8) (Some WrongPageKind) (cond (n == 9) (Some MissingBit) (cond (n == 10) (Some LevelTooLow) (cond (n == 11) (Some NotADoor) None)))
+    if n == 8 then Some WrongPageKind else if n == 9 then Some MissingBit else if n == 10 then Some LevelTooLow else if n == 11 then Some NotADoor else None
 
 -- levels and questions by their numbers
 abbrev pub level_no : ℕ → Level

@@ -1,5 +1,6 @@
 -- What the calls of a draft do: PAGE, ENTRY and COUNTER, with their checks in order. Assumes nothing.
-use Rattle.std.specs.Prelude.{ℕ, Bool, true, false, cond, not, ◌&&◌, List, [], ◌∷◌, replicate, is_some, Some, None, Ok, Err, Option, Result, ◌==◌, nat_le, slice_index_or, slice_set}
+use Rattle.std.specs.Prelude.{ℕ, Bool, true, false, if◌then◌else◌, not, ◌&&◌, List, [], ◌∷◌, ◌++◌, length, replicate, is_some, Some, None, Ok, Err, Option, Result, ◌==◌, nat_le, nat_lt, slice_index_or, slice_set}
+use Rattle.std.specs.List.{position}
 use Rattle.fault.specs.Faults.{bare_fault}
 use Rattle.fault.specs.Levels.{level_named}
 use Rattle.fault.specs.declared.level.Level.{Level}
@@ -7,8 +8,7 @@ use Rattle.fault.specs.declared.refusal.Refusal.{Refusal}
 use Rattle.fault.specs.declared.refusal.Refusal.TheVariants.{DraftNumber, DraftTag, DraftBits, DraftRepeat, DraftFull}
 use Rattle.fault.specs.declared.report.Fault.{Fault}
 use Rattle.plan.specs.Chart.{has_bit}
-use Rattle.plan.specs.First.{first_where}
-use Rattle.plan.specs.Tables.{Planned, first_page, for_tag, no_entry, no_store, on_page, unplanned}
+use Rattle.plan.specs.Tables.{Planned, first_page, for_tag, unplanned}
 use Rattle.plan.specs.declared.records.Entry.{Entry}
 use Rattle.plan.specs.declared.records.Page.{Page}
 use Rattle.plan.specs.declared.records.StorePage.{StorePage}
@@ -21,12 +21,12 @@ pub record Drafted : Type 0 where
 -- a new draft: page 0 alone is planned, no tag lists another, the host owns every counter
 abbrev pub blank : Drafted
 blank = record {
-  plan = record { pages = first_page ∷ replicate 127 unplanned; lists = replicate 64 (replicate 12 no_entry); owners = replicate 17 0; stores = replicate 8 no_store };
+  plan = record { pages = first_page ∷ replicate 127 unplanned; lists = replicate 64 []; owners = replicate 17 0; stores = [] };
   given = replicate 17 false;
 }
 
 abbrev pub demand : {X : Type 0} → Bool → Refusal → Result X Refusal → Result X Refusal
-demand test refusal rest = cond test rest (Err refusal)
+demand test refusal rest = if test then rest else Err refusal
 
 abbrev pub between : ℕ → ℕ → ℕ → Bool
 between low high n = nat_le low n && nat_le n high
@@ -49,10 +49,9 @@ owned k owner d = record {
   given = slice_set d.given k true;
 }
 
--- an S page takes the first free place among the eight
-abbrev pub store_page : Drafted → ℕ → Page → Option ℕ → Result Drafted Refusal
-store_page d n page None = Err DraftFull
-store_page d n page (Some i) = Ok (paged n page (slice_set d.plan.stores i (record { page = n })) d)
+-- an S page goes to the end of the S pages, of which there are at most eight
+abbrev pub store_page : Drafted → ℕ → Page → Result Drafted Refusal
+store_page d n page = demand (nat_lt (length d.plan.stores) 8) DraftFull (Ok (paged n page (d.plan.stores ++ record { page = n } ∷ []) d))
 
 abbrev pub draft_page : Drafted → ℕ → ℕ → ℕ → Result Drafted Refusal
 draft_page d n t b =
@@ -60,17 +59,15 @@ draft_page d n t b =
     (demand (between 1 63 t) DraftTag
     (demand (nat_le b 31 && not (has_bit 16 b && has_bit 4 b)) DraftBits
     (demand ((slice_index_or d.plan.pages n unplanned).tag == 0) DraftRepeat
-    (cond (has_bit 16 b) (store_page d n (record { tag = t; bits = b }) (first_where (on_page 0) d.plan.stores)) (Ok (paged n (record { tag = t; bits = b }) d.plan.stores d))))))
+    (if has_bit 16 b then store_page d n (record { tag = t; bits = b }) else Ok (paged n (record { tag = t; bits = b }) d.plan.stores d)))))
 
--- an entry takes the first free place among the twelve
-abbrev pub put_entry : Drafted → ℕ → List Entry → Entry → Option ℕ → Result Drafted Refusal
-put_entry d t list e None = Err DraftFull
-put_entry d t list e (Some i) = Ok (listed t (slice_set list i e) d)
+-- an entry goes to the end of its list, which has at most twelve
+abbrev pub put_entry : Drafted → ℕ → List Entry → Entry → Result Drafted Refusal
+put_entry d t list e = demand (nat_lt (length list) 12) DraftFull (Ok (listed t (list ++ e ∷ []) d))
 
 abbrev pub add_entry : Drafted → ℕ → List Entry → ℕ → Level → Result Drafted Refusal
 add_entry d t list u level =
-    demand (not (is_some (first_where (for_tag u) list))) DraftRepeat
-    (put_entry d t list (record { tag = u; level = level }) (first_where (for_tag 0) list))
+    demand (not (is_some (position (for_tag u) list))) DraftRepeat (put_entry d t list (record { tag = u; level = level }))
 
 abbrev pub levelled : Drafted → ℕ → ℕ → Option Level → Result Drafted Refusal
 levelled d t u None = Err DraftBits

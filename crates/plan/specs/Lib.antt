@@ -1,5 +1,4 @@
 pub mod Chart
 pub mod Drafting
-pub mod First
 pub mod Model
 pub mod Tables

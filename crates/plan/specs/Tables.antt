@@ -1,10 +1,10 @@
 -- What a plan says of pages, tags, counters and slots. Assumes nothing.
-use Rattle.std.specs.Prelude.{◌≡◌, ℕ, ◌+◌, ◌*◌, ◌/◌, ◌%◌, ◌<◌, Bool, true, false, cond, ◌||◌, List, [], ◌∷◌, length, Some, None, Option, ◌==◌, slice_index, slice_index_or}
+use Rattle.std.specs.Prelude.{◌≡◌, ℕ, ◌+◌, ◌*◌, ◌/◌, ◌%◌, ◌<◌, Bool, true, if◌then◌else◌, List, [], is_some, Some, None, Option, ◌==◌, slice_index, slice_index_or}
+use Rattle.std.specs.List.{position}
 use Rattle.fault.specs.declared.level.Level.{Level}
 use Rattle.fault.specs.declared.level.Level.TheVariants.{Nothing, Write}
 use Rattle.fault.specs.declared.refusal.Refusal.{Refusal}
 use Rattle.plan.specs.Chart.{decision, has_bit}
-use Rattle.plan.specs.First.{first_where}
 use Rattle.plan.specs.declared.chart.Question.{Question}
 use Rattle.plan.specs.declared.chart.Question.TheVariants.{Door, Elsewhere}
 use Rattle.plan.specs.declared.records.Entry.{Entry}
@@ -24,13 +24,6 @@ unplanned = record { tag = 0; bits = 0 }
 abbrev pub first_page : Page
 first_page = record { tag = 1; bits = 5 }
 
--- an unused place of an access list, and of the S pages: there is no tag 0, and page 0 is no S page
-abbrev pub no_entry : Entry
-no_entry = record { tag = 0; level = Nothing }
-
-abbrev pub no_store : StorePage
-no_store = record { page = 0 }
-
 abbrev pub for_tag : ℕ → Entry → Bool
 for_tag t e = e.tag == t
 
@@ -46,19 +39,19 @@ tag_at p a = (page_at p a).tag
 -- the level of the entry at a place that a search found
 abbrev pub level_found : List Entry → Option ℕ → Level
 level_found es None = Nothing
-level_found es (Some i) = (slice_index_or es i no_entry).level
+level_found es (Some i) = (slice_index_or es i (record { tag = 0; level = Nothing })).level
 
 -- the level that tag t has for tag u: its own Write, another's by its list, none for tag 0
 abbrev pub level_for : Planned → ℕ → ℕ → Level
 level_for p t u =
-    cond (u == 0) Nothing (cond (t == u) Write (level_found (slice_index_or p.lists t []) (first_where (for_tag u) (slice_index_or p.lists t []))))
+    if u == 0 then Nothing else if t == u then Write else level_found (slice_index_or p.lists t []) (position (for_tag u) (slice_index_or p.lists t []))
 
 abbrev pub owner_of : Planned → ℕ → ℕ
 owner_of p k = slice_index p.owners k
 
 -- what entering at an address asks; a door is a multiple of 64
 abbrev pub entry_at : Planned → ℕ → Question
-entry_at p a = cond (a % 64 == 0) Door Elsewhere
+entry_at p a = if a % 64 == 0 then Door else Elsewhere
 
 -- what the chart says of a question at an address, at a level
 abbrev pub decides : Planned → Question → ℕ → Level → Option Refusal
@@ -70,9 +63,9 @@ slot_found a None = None
 slot_found a (Some i) = Some (8 * i + a % 256 / 32)
 
 abbrev pub slot_at : Planned → ℕ → Option ℕ
-slot_at p a = slot_found a (first_where (on_page (a / 256)) p.stores)
+slot_at p a = slot_found a (position (on_page (a / 256)) p.stores)
 
--- what every plan keeps: bits and tags in range, a tag on every page with X, page 0, every S page found, twelve places a list
+-- what every plan keeps: bits and tags in range, a tag on every page with X, page 0, every S page found
 abbrev pub ProperPage : Page → Type 0
 ProperPage x = (x.bits < 32) × (x.tag < 64) × (has_bit 4 x.bits ≡ true → 0 < x.tag)
 
@@ -82,12 +75,5 @@ Proper ps = (k : ℕ) → ProperPage (slice_index_or ps k unplanned)
 abbrev pub StartsFirst : List Page → Type 0
 StartsFirst ps = ((slice_index_or ps 0 unplanned).tag ≡ 1) × ((slice_index_or ps 0 unplanned).bits ≡ 5)
 
-abbrev pub any_of : {X : Type 0} → (X → Bool) → List X → Bool
-any_of test [] = false
-any_of test (x ∷ xs) = test x || any_of test xs
-
 abbrev pub Stored : List Page → List StorePage → Type 0
-Stored ps ss = (k : ℕ) → has_bit 16 (slice_index_or ps k unplanned).bits ≡ true → any_of (on_page k) ss ≡ true
-
-abbrev pub Twelves : List (List Entry) → Type 0
-Twelves ls = (t : ℕ) → t < 64 → length (slice_index_or ls t []) ≡ 12
+Stored ps ss = (k : ℕ) → has_bit 16 (slice_index_or ps k unplanned).bits ≡ true → is_some (position (on_page k) ss) ≡ true

@@ -1,5 +1,3 @@
-ghost use Rattle.std.specs.Prelude.{◌≡◌, length};
-
 use crate::tables::Plan;
 
 pub mod calls;
@@ -8,6 +6,4 @@ pub mod calls;
 #[derive(Drop)]
 pub struct Draft {
     plan: Plan,
-    given: [bool; 17],
-    ghost given17: { length given ≡ 17 },
 }

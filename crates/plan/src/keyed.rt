@@ -1,5 +1,5 @@
 ghost use Rattle.std.specs.Prelude.{◌≡◌, ℕ, ◌<◌, Bool, true, length, IfSome, slice_index_or};
-ghost use Rattle.plan.specs.First.{first_where};
+ghost use Rattle.std.specs.List.{position};
 
 // A record that is kept under a number.
 pub trait Keyed {
@@ -11,14 +11,9 @@ pub trait Keyed {
 
 // The first place of a record that is kept under the key.
 pub fn find<T: Keyed>(records: &[T], key: usize) -> Option<usize>
-    ensures value { result ≡ first_where (λ x. T.under x key) records.now }
+    ensures value { result ≡ position (λ x. T.under x key) records.now }
     ensures within { IfSome result (λ i. i < length records.now) }
     ensures holds { IfSome result (λ i. (d : T) → T.under (slice_index_or records.now i d) key ≡ true) }
 {
-    for (i, record) in records.iter().enumerate() {
-        if record.is_under(key) {
-            return Some(i);
-        }
-    }
-    None
+    records.iter().position(|record| record.is_under(key))
 }

@@ -4,8 +4,9 @@ ghost use Rattle.plan.specs.Chart.{has_bit};
 use crate::keyed::Keyed;
 use fault::level::Level;
 
-// A page's tag and the sum of its bits: R 1, W 2, X 4, P 8, S 16.
-#[derive(Clone, Copy)]
+// A page's tag and the sum of its bits: R 1, W 2, X 4, P 8, S 16. An unplanned page has tag 0 and bits 0.
+// Kept: tag 0 is none and bits are a sum, since rules, plans and the chart say them as these numbers.
+#[derive(Clone, Copy, Default)]
 pub struct Page {
     pub tag: u8,
     pub bits: u8,
@@ -27,15 +28,15 @@ impl Page {
     }
 }
 
-// An entry of an access list: the level for another tag. Tag 0 marks an unused place.
-#[derive(Clone, Copy)]
+// An entry of an access list: the level for another tag.
+#[derive(Clone, Copy, Default)]
 pub struct Entry {
     pub tag: u8,
     pub level: Level,
 }
 
-// A page that stores capabilities. Page 0 marks an unused place.
-#[derive(Clone, Copy)]
+// A page that stores capabilities.
+#[derive(Clone, Copy, Default)]
 pub struct StorePage {
     pub page: u8,
 }
@@ -44,7 +45,7 @@ impl Keyed for Entry {
     ghost under = { λ s k. (s.tag == k) };
 
     fn is_under(&self, key: usize) -> bool {
-        self.tag as usize == key
+        usize::from(self.tag) == key
     }
 }
 
@@ -52,6 +53,6 @@ impl Keyed for StorePage {
     ghost under = { λ s k. (s.page == k) };
 
     fn is_under(&self, key: usize) -> bool {
-        self.page as usize == key
+        usize::from(self.page) == key
     }
 }

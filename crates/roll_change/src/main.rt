@@ -3,13 +3,16 @@
 #![tactic(auto)]
 
 use fault::report::Fault;
+use instruction::op::Op;
+use instruction::record::Record;
 use machine::answer::Done;
 use machine::machine::Machine;
 use memory::flat::Flat;
 use plan::draft::Draft;
+use std::io;
 
 // The sensor's cell, on the driver's page.
-const CELL: usize = 768;
+const CELL: u32 = 768;
 
 // The script runs on page 0 with tag 1; page 3 is the driver's, with tag 2 and bits R and W. Nobody lists anybody.
 fn planned() -> Result<Draft, Fault> {
@@ -18,33 +21,41 @@ fn planned() -> Result<Draft, Fault> {
     Ok(draft)
 }
 
-// LOAD value register 1 from the sensor's cell.
-const READ_CELL: [u8; 8] = [3, 1, 0, 0, 0, 3, 0, 0];
-
-fn tell(rt: &HostRuntime, who: &str, answer: Result<Done, Fault>) -> anyhow::Result<()> {
-    match answer {
-        Ok(done) => {
-            let place = done.place;
-            let value = done.value;
-            println!(rt; "{who}: accepted, place {place}, value {value}")?;
-        }
-        Err(fault) => println!(rt; "{who}: {fault}")?,
+// The bytes of LOAD: value register 1 becomes what the sensor's cell holds.
+fn read_cell() -> [u8; 8] {
+    Record {
+        op: Op::Load.into(),
+        a: 1,
+        b: 0,
+        c: 0,
+        v: CELL,
     }
-    Ok(())
+    .into()
 }
 
-fn story(rt: &HostRuntime, draft: Draft) -> anyhow::Result<()> {
+fn tell(rt: &impl Print, who: &str, answer: Result<Done, Fault>) -> io::Result<()> {
+    match answer {
+        Ok(Done { place, value }) => println!(rt; "{who}: accepted, place {place}, value {value}"),
+        Err(fault) => println!(rt; "{who}: {fault}"),
+    }
+}
+
+fn story(rt: &impl Print, draft: Draft) -> io::Result<()> {
     let mut area = [0u8; 1024];
     let mut machine = Machine::seal(draft, Flat::new(&mut area));
     tell(
         rt,
         "host deposits the sensor's 40",
-        machine.deposit(CELL, 40),
+        machine.deposit(CELL as usize, 40),
     )?;
-    tell(rt, "script reads before the loan", machine.obey(&READ_CELL))?;
-    match machine.lend(1, 0, CELL, 1, 2) {
+    tell(
+        rt,
+        "script reads before the loan",
+        machine.obey(&read_cell()),
+    )?;
+    match machine.lend(1, 0, CELL as usize, 1, 2) {
         Ok(slip) => {
-            let during = machine.obey(&READ_CELL);
+            let during = machine.obey(&read_cell());
             let back = machine.recall(slip);
             tell(rt, "script reads during the loan", during)?;
             tell(rt, "host recalls the loan", Ok(back))?;
@@ -54,7 +65,7 @@ fn story(rt: &HostRuntime, draft: Draft) -> anyhow::Result<()> {
     tell(
         rt,
         "script reads after the roll change",
-        machine.obey(&READ_CELL),
+        machine.obey(&read_cell()),
     )
 }
 

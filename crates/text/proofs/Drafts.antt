@@ -1,17 +1,29 @@
 -- What a row of the draft answers and leaves. Assumes nothing.
-use Rattle.std.proofs.Common.{◌≡◌, ℕ, List, Some, Ok, Err, Result, refl, ap, ◌∙◌}
+use Rattle.std.proofs.Common.{◌≡◌, ℕ, List, Some, None, Ok, Err, Option, Result, sym, refl, ap, ◌∙◌}
 use Rattle.fault.specs.declared.refusal.Refusal.{Refusal}
+use Rattle.fault.specs.declared.refusal.Refusal.TheVariants.{BadText}
 use Rattle.fault.specs.declared.report.Fault.{Fault}
 use Rattle.plan.specs.Drafting.{Drafted, draft_after, draft_answer}
+use Rattle.std.specs.Option.{ok_or}
 use Rattle.text.specs.Numbers.{fields_of}
 use Rattle.text.specs.Sections.{width_of}
-use Rattle.text.specs.Sheets.{Task, after_of, answer_of, draft_task, row_of, take_fields, take_row, told_of, with_draft}
+use Rattle.text.specs.Sheets.{Task, after_of, answer_of, draft_task, row_of, take_fields, take_row, with_draft}
 use Rattle.text.specs.Splitting.{pieces}
 use Rattle.text.specs.declared.sections.Section.{Section}
+use Rattle.text.proofs.Contrary.{never}
 
 -- a line that is a row of numbers
-pub row_is : (s : Section) (t : Task) (line fs : List ℕ) (ws : List (List ℕ)) → Some fs ≡ fields_of (width_of s) ws → ws ≡ pieces 32 line → take_row s t fs ≡ row_of s t line
-row_is s t line fs ws e f = ap (take_fields s t) (e ∙ ap (fields_of (width_of s)) f)
+row_numbers : (s : Section) (t : Task) (fs : List ℕ) (o : Option (List ℕ)) → ok_or o BadText ≡ Ok fs → take_row s t fs ≡ take_fields s t o
+row_numbers s t fs None e = never (cc)
+row_numbers s t fs (Some gs) e = ap (take_row s t) (cc)
+
+pub row_is : (s : Section) (t : Task) (line fs : List ℕ) (r : Result (List ℕ) Refusal) → r ≡ Ok fs → r ≡ ok_or (fields_of (width_of s) (pieces 32 line)) BadText → take_row s t fs ≡ row_of s t line
+row_is s t line fs r e f = row_numbers s t fs (fields_of (width_of s) (pieces 32 line)) (sym f ∙ e)
+
+-- a fault of the draft tells its refusal
+abbrev pub told_of : Result Unit Fault → Result Unit Refusal
+told_of (Ok x) = Ok tt
+told_of (Err fault) = Err fault.refusal
 
 told-call : (t : Task) (r : Result Drafted Refusal) → told_of (draft_answer r) ≡ answer_of (draft_task t r)
 told-call t (Ok d) = refl

@@ -3,6 +3,7 @@ use Rattle.std.proofs.Common.{◌≡◌, ℕ, ◌^◌, ◌<◌, ◌≤◌, true,
 use Rattle.fault.specs.declared.refusal.Refusal.TheVariants.{BadText}
 use Rattle.std.proofs.lemmas.Slice.Eq.{bytes_eq-Decides}
 use Rattle.std.proofs.lemmas.Bool.{cond-true, le-leb, leb-true}
+use Rattle.std.proofs.lemmas.List.Splits.{join_with_byte-slice_split}
 use Rattle.std.specs.Str.{bytes_eq}
 use Rattle.text.specs.Numbers.{fields_of}
 use Rattle.text.specs.Sheets.{Task, letter_of, longest_of, made_task, make_named, memory_of, memory_words, sized_task, with_memory}
@@ -11,7 +12,7 @@ use Rattle.text.specs.Writing.{memory_row}
 use Rattle.text.specs.declared.job.Make.{Make}
 use Rattle.text.specs.declared.job.Make.TheVariants.{Flat, Nibble}
 use Rattle.text.proofs.Contrary.{never}
-use Rattle.text.proofs.Pieces.{Free, free-append, glued-pieces, pieces-glued}
+use Rattle.text.proofs.Pieces.{Free, free-append, pieces-glued}
 use Rattle.text.proofs.RowText.{fields_words, free_decimal, words_fields}
 
 pub small_size : (make : Make) (size : ℕ) → size ≤ longest_of make → size < 2 ^ 32
@@ -85,7 +86,7 @@ words_is t u line [] l e = never (cc)
 words_is t u line (w ∷ ws) l e = made-is t u line w ws l (make_named w) (fields_of 1 ws) refl refl e
 
 pub memory_line : (t u : Task) (line : List ℕ) → memory_of t line ≡ Ok u → MemoryIs t u line
-memory_line t u line e = words_is t u line (pieces 32 line) (sym (glued-pieces 32 line)) e
+memory_line t u line e = words_is t u line (pieces 32 line) (sym (join_with_byte-slice_split 32 line)) e
 
 pub line_memory : (t : Task) (make : Make) (size : ℕ) → size ≤ longest_of make → memory_of t (memory_row make size) ≡ Ok (with_memory make size t)
 line_memory t make size h =

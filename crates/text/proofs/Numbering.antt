@@ -1,9 +1,8 @@
 -- A word is read as a number just where it is that number in base ten. Assumes nothing.
-use Rattle.std.proofs.Common.{◌≡◌, ℕ, zero, suc, ◌+◌, ◌-◌, ◌*◌, ◌^◌, ◌<◌, ◌≤◌, Bool, true, false, cond, ◌&&◌, eqb, ltb, List, [], ◌∷◌, length, get_or, drop, Some, None, decimal, Option, sym, refl, ap, ◌∙◌, arith, rules}
+use Rattle.std.proofs.Common.{◌≡◌, ℕ, zero, suc, ◌+◌, ◌-◌, ◌*◌, ◌^◌, ◌<◌, ◌≤◌, Bool, true, false, cond, ◌&&◌, eqb, ltb, List, [], ◌∷◌, length, get_or, Some, None, decimal, Option, sym, refl, ap, ◌∙◌, arith, rules}
 use Rattle.std.proofs.lemmas.Fmt.{decimal_digit, decimal_nonempty, decimal-digits_value, digits_decimal, first_decimal, digits_value-decimal}
-use Rattle.std.proofs.lemmas.List.{at_drop_more, at_drop_all}
 use Rattle.std.proofs.lemmas.Str.Parse.{IsNumeralModel, numerals_by_fold}
-use Rattle.std.proofs.lemmas.Bool.{and_from, and_parts, cond-false, cond-true, eqb-false, le-leb, lt-ltb, ltb-true, ne_eqb}
+use Rattle.std.proofs.lemmas.Bool.{and_from, and_parts, cond-false, cond-true, eqb-false, lt-ltb, ltb-true, ne_eqb}
 use Rattle.std.proofs.lemmas.Bool.Decides.{nat_tests}
 use Rattle.std.specs.Str.{all_ascii_digits}
 use Rattle.text.specs.Numbers.{Writes, is_digit, number_of, number_on}
@@ -15,26 +14,6 @@ read_on n (c ∷ cs) = read_on (10 * n + (c - 48)) cs
 
 own : IsNumeralModel (λ ds. all_ascii_digits ds ≡ true) (read_on 0)
 own = numerals_by_fold _ (search rules) read_on (search rules)
-
--- one digit more
-module _ (n : ℕ) (w : List ℕ) (i : ℕ) (h : i < length w) where
-  abbrev here : ℕ
-  here = get_or w i 0
-
-  abbrev next : ℕ
-  next = 10 * n + (here - 48)
-
-  at : number_on n (drop i w) ≡ cond (is_digit here && ltb next 4294967296) (number_on next (drop (i + 1) w)) None
-  at = at_drop_more (number_on n) w i 0 h
-
-  pub on_more : 48 ≤ here → here ≤ 57 → next < 4294967296 → number_on n (drop i w) ≡ number_on next (drop (i + 1) w)
-  on_more a b k = at ∙ cond-true _ _ _ (and_from (is_digit here) _ (and_from _ _ (le-leb _ _ a) (le-leb _ _ b)) (lt-ltb _ _ k))
-
-  pub on_none : (is_digit here && ltb next 4294967296) ≡ false → number_on n (drop i w) ≡ None
-  on_none e = at ∙ cond-false _ _ _ e
-
-pub on_all : (n : ℕ) (w : List ℕ) (i : ℕ) → length w ≤ i → number_on n (drop i w) ≡ Some n
-on_all n w i h = at_drop_all (number_on n) w i h
 
 cond_some : (b : Bool) (x y : Option ℕ) (m : ℕ) → x ≡ None → cond b x y ≡ Some m → (b ≡ false) × (y ≡ Some m)
 cond_some true x y m e f = never (cc)

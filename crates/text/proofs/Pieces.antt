@@ -1,9 +1,11 @@
 -- Pieces are glued and parted without loss. Assumes nothing.
 use Rattle.std.proofs.Common.{◌≡◌, ℕ, Bool, true, false, cond, not, ◌&&◌, eqb, List, [], ◌∷◌, ◌++◌, map, sym, refl, ap, ◌∙◌}
-use Rattle.std.proofs.lemmas.Bool.{and_from, and_parts, cond-false, cond-true, eq-eqb, eqb-true, not-true}
+use Rattle.std.proofs.lemmas.Bool.{and_from, and_parts, cond-false, cond-true, eq-eqb, not-true}
 use Rattle.std.specs.List.{AllByRecursion}
-use Rattle.text.specs.Splitting.{Line, closed, unclosed, ended, glued, last_line, lines_in, lines_of, on_first, pieces}
-use Rattle.text.proofs.Cutting.{pieces_some}
+use Rattle.text.specs.Splitting.{Line, closed, unclosed, ended, glued, last_line, lines_in, lines_of, pieces}
+use Rattle.std.proofs.lemmas.List.Splits.{join_with_byte-slice_split}
+use Rattle.std.specs.List.{onto_first}
+use Rattle.text.proofs.Cutting.{lines_cons, pieces_some}
 
 -- a stretch without the stop
 abbrev pub free : ℕ → List ℕ → Bool
@@ -23,52 +25,33 @@ pub pieces-free : (stop : ℕ) (w : List ℕ) → Free stop w → pieces stop w 
 pieces-free stop [] f = refl
 pieces-free stop (x ∷ w) f =
     let p = and_parts (not (eqb x stop)) (free stop w) f in
-    cond-false (eqb x stop) _ _ (not-true (eqb x stop) p.0) ∙ ap (on_first x) (pieces-free stop w p.1)
+    cond-false (eqb x stop) _ _ (not-true (eqb x stop) p.0) ∙ ap (onto_first x) (pieces-free stop w p.1)
 
 pub pieces-cut : (stop : ℕ) (w xs : List ℕ) → Free stop w → pieces stop (w ++ stop ∷ xs) ≡ w ∷ pieces stop xs
 pieces-cut stop [] xs f = cond-true (eqb stop stop) _ _ (eq-eqb stop stop refl)
 pieces-cut stop (x ∷ w) xs f =
     let p = and_parts (not (eqb x stop)) (free stop w) f in
-    cond-false (eqb x stop) _ _ (not-true (eqb x stop) p.0) ∙ ap (on_first x) (pieces-cut stop w xs p.1)
+    cond-false (eqb x stop) _ _ (not-true (eqb x stop) p.0) ∙ ap (onto_first x) (pieces-cut stop w xs p.1)
 
 -- what was glued is parted
 pub pieces-glued : (stop : ℕ) (w : List ℕ) (ws : List (List ℕ)) → AllByRecursion (Free stop) (w ∷ ws) → pieces stop (glued stop (w ∷ ws)) ≡ w ∷ ws
 pieces-glued stop w [] f = pieces-free stop w f.0
 pieces-glued stop w (v ∷ ws) f = pieces-cut stop w (glued stop (v ∷ ws)) f.0 ∙ ap (λ ps. w ∷ ps) (pieces-glued stop v ws f.1)
 
--- what was parted is glued
-glued-on : (stop x : ℕ) (q : List ℕ) (qs : List (List ℕ)) → glued stop (on_first x (q ∷ qs)) ≡ x ∷ glued stop (q ∷ qs)
-glued-on stop x q [] = refl
-glued-on stop x q (r ∷ rs) = refl
-
-pub glued-pieces : (stop : ℕ) (xs : List ℕ) → glued stop (pieces stop xs) ≡ xs
-glued-pieces stop [] = refl
-glued-pieces stop (x ∷ xs) =
-    let s = pieces_some stop xs in
-    let e = s.1.1 in
-    let rest : glued stop (s.0 ∷ s.1.0) ≡ xs = ap (glued stop) (sym e) ∙ glued-pieces stop xs in
-    elim (eqb x stop) as (λ b. eqb x stop ≡ b → glued stop (cond b ([] ∷ pieces stop xs) (on_first x (pieces stop xs))) ≡ x ∷ xs) [
-      | true ↦ λ t. ap (λ ps. glued stop ([] ∷ ps)) e ∙ ap (λ ys. stop ∷ ys) rest ∙ ap (λ y. y ∷ xs) (sym (eqb-true x stop t))
-      | false ↦ λ t. ap (λ ps. glued stop (on_first x ps)) e ∙ glued-on stop x s.0 s.1.0 ∙ ap (λ ys. x ∷ ys) rest
-    ] refl
-
 -- no piece has a stop
-first_free : (stop x : ℕ) (ps : List (List ℕ)) → eqb x stop ≡ false → AllByRecursion (Free stop) ps → AllByRecursion (Free stop) (on_first x ps)
+first_free : (stop x : ℕ) (ps : List (List ℕ)) → eqb x stop ≡ false → AllByRecursion (Free stop) ps → AllByRecursion (Free stop) (onto_first x ps)
 first_free stop x [] e f = (and_from (not (eqb x stop)) true (ap not e) refl, tt)
 first_free stop x (p ∷ ps) e f = (and_from (not (eqb x stop)) (free stop p) (ap not e) f.0, f.1)
 
 pub free-pieces : (stop : ℕ) (xs : List ℕ) → AllByRecursion (Free stop) (pieces stop xs)
 free-pieces stop [] = (refl, tt)
 free-pieces stop (x ∷ xs) =
-    elim (eqb x stop) as (λ b. eqb x stop ≡ b → AllByRecursion (Free stop) (cond b ([] ∷ pieces stop xs) (on_first x (pieces stop xs)))) [
+    elim (eqb x stop) as (λ b. eqb x stop ≡ b → AllByRecursion (Free stop) (cond b ([] ∷ pieces stop xs) (onto_first x (pieces stop xs)))) [
       | true ↦ λ t. (refl, free-pieces stop xs)
       | false ↦ λ t. first_free stop x (pieces stop xs) t (free-pieces stop xs)
     ] refl
 
 -- lines, each with its line feed
-pub lines_cons : (l xs : List ℕ) → lines_in (l ∷ pieces 10 xs) ≡ closed l ∷ lines_of xs
-lines_cons l xs = let s = pieces_some 10 xs in ap (λ ps. lines_in (l ∷ ps)) s.1.1 ∙ ap (λ ps. closed l ∷ lines_in ps) (sym s.1.1)
-
 pub lines_ended : (ls : List (List ℕ)) → AllByRecursion (Free 10) ls → lines_of (ended ls) ≡ map closed ls
 lines_ended [] f = refl
 lines_ended (l ∷ ls) f =
@@ -91,7 +74,7 @@ text_in p (q ∷ ps) = ap (λ ys. p ++ 10 ∷ ys) (text_in q ps)
 pub text_lines : (xs : List ℕ) → text_of (lines_of xs) ≡ xs
 text_lines xs =
     let s = pieces_some 10 xs in
-    ap (λ ps. text_of (lines_in ps)) s.1.1 ∙ text_in s.0 s.1.0 ∙ ap (glued 10) (sym s.1.1) ∙ glued-pieces 10 xs
+    ap (λ ps. text_of (lines_in ps)) s.1.1 ∙ text_in s.0 s.1.0 ∙ ap (glued 10) (sym s.1.1) ∙ join_with_byte-slice_split 10 xs
 
 pub text_closed : (ls : List (List ℕ)) → text_of (map closed ls) ≡ ended ls
 text_closed [] = refl

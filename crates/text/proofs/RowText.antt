@@ -4,6 +4,7 @@ use Rattle.std.proofs.lemmas.Fmt.{decimal_nonempty, digits_decimal}
 use Rattle.std.proofs.ByRecursion.{All-map, All-weaker}
 use Rattle.std.proofs.lemmas.Str.Parse.{numerals_by_value, tells_all_ascii_digits}
 use Rattle.std.proofs.lemmas.Bool.{and_from, and_parts, leb-true, ne_eqb}
+use Rattle.std.proofs.lemmas.List.Splits.{join_with_byte-slice_split}
 use Rattle.std.specs.List.{AllByRecursion}
 use Rattle.std.specs.Str.{all_ascii_digits}
 use Rattle.text.specs.Numbers.{fields_of, is_digit, number_of, paired}
@@ -15,7 +16,7 @@ use Rattle.text.specs.Writing.{Fits, row}
 use Rattle.text.specs.declared.sections.Section.{Section}
 use Rattle.text.proofs.Contrary.{never}
 use Rattle.text.proofs.Numbering.{number_decimal, number-written}
-use Rattle.text.proofs.Pieces.{Free, free, free-append, glued-pieces, pieces-glued}
+use Rattle.text.proofs.Pieces.{Free, free, free-append, pieces-glued}
 
 abbrev Small : ℕ → Type 0
 Small n = n < 2 ^ 32
@@ -85,7 +86,7 @@ pub line_row : (s : Section) (t u : Task) (line : List ℕ) → row_of s t line 
 line_row s t u line e =
     let p = takes s t u (fields_of (width_of s) (pieces 32 line)) e in
     let f = fields_words (width_of s) (pieces 32 line) p.0 p.1.0 in
-    (p.0, (sym (glued-pieces 32 line) ∙ ap (glued 32) f.0, (f.1, f.2), p.1.1))
+    (p.0, (sym (join_with_byte-slice_split 32 line) ∙ ap (glued 32) f.0, (f.1, f.2), p.1.1))
 
 pub fields-row : (s : Section) (ns : List ℕ) → 0 < width_of s → Fits s ns → fields_of (width_of s) (pieces 32 (row ns)) ≡ Some ns
 fields-row s ns h f =

@@ -1,9 +1,11 @@
 -- What the code's job stands for. Assumes nothing.
 use Rattle.plan.specs.Model.{drafted}
-use Rattle.std.specs.Prelude.{Ok, Err, vec_items, Result}
+use Rattle.std.specs.Prelude.{⊤, Ok, Err, vec_items, Result}
 use Rattle.text.specs.Reading.{State, at}
 use Rattle.text.specs.Sheets.{Task}
 use Rattle.text.specs.declared.job.Job.{Job}
+use Rattle.text.specs.declared.job.ReadError.{ReadError}
+use Rattle.text.specs.declared.job.ReadError.TheVariants.{Memory, Refused as Told}
 use Rattle.text.specs.declared.job.Refused.{Refused}
 use Rattle.text.specs.declared.sheet.Sheet.{Sheet}
 
@@ -22,3 +24,9 @@ finished (Err refused) s = Err refused
 abbrev pub outcome : Result Job Refused → Result Task Refused
 outcome (Ok job) = Ok (task_of job)
 outcome (Err refused) = Err refused
+
+-- P of the answer, unless memory ran out
+abbrev pub IfAnswered : {X R : Type 0} → Result X (ReadError R) → (Result X R → Type 0) → Type 0
+IfAnswered (Ok x) P = P (Ok x)
+IfAnswered (Err (Told refusal)) P = P (Err refusal)
+IfAnswered (Err (Memory error)) P = ⊤

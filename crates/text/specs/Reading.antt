@@ -1,11 +1,13 @@
 -- How a text is read: line by line, each judged at its stage. Assumes nothing.
-use Rattle.std.specs.Prelude.{ℕ, ◌+◌, Bool, true, false, cond, ◌&&◌, List, [], ◌∷◌, length, Ok, Err, Result, ◌==◌, nat_le}
+use Rattle.std.specs.Prelude.{ℕ, ◌+◌, Bool, true, false, if◌then◌else◌, ◌&&◌, List, [], ◌∷◌, length, Ok, Err, Result, ◌==◌, nat_le}
 use Rattle.fault.specs.declared.refusal.Refusal.{Refusal}
 use Rattle.fault.specs.declared.refusal.Refusal.TheVariants.{BadText}
 use Rattle.std.specs.Str.{bytes_eq}
 use Rattle.text.specs.Sections.{blank_closes, names_of, next_of}
 use Rattle.text.specs.Sheets.{Task, empty, memory_of, row_of}
 use Rattle.text.specs.Splitting.{Line, closed, unclosed, lines_of}
+use Rattle.text.specs.declared.job.ReadError.{ReadError}
+use Rattle.text.specs.declared.job.ReadError.TheVariants.{Memory as Lack, Refused as Told}
 use Rattle.text.specs.declared.job.Refused.{Refused}
 use Rattle.text.specs.declared.sections.Section.{Section}
 use Rattle.text.specs.declared.sections.Section.TheVariants.{Memory, Pages, Entries, Counters, Trace}
@@ -24,7 +26,7 @@ abbrev pub start : State
 start = at (Names Memory) empty
 
 abbrev pub demand_line : Bool → State → Result State Refusal
-demand_line test s = cond test (Ok s) (Err BadText)
+demand_line test s = if test then Ok s else Err BadText
 
 abbrev pub is_blank : List ℕ → Bool
 is_blank line = length line == 0
@@ -43,7 +45,7 @@ row_at Trace t line = moved (Rows Trace) (row_of Trace t line)
 
 abbrev pub step_at : Stage → Task → List ℕ → Result State Refusal
 step_at (Names s) t line = demand_line (bytes_eq line (names_of s)) (at (Rows s) t)
-step_at (Rows s) t line = cond (blank_closes s && is_blank line) (Ok (at (Names (next_of s)) t)) (row_at s t line)
+step_at (Rows s) t line = if blank_closes s && is_blank line then Ok (at (Names (next_of s)) t) else row_at s t line
 step_at (Closed s) t line = demand_line (is_blank line) (at (Names (next_of s)) t)
 
 -- one line, without its line feed
@@ -52,6 +54,11 @@ step_line s line = step_at s.stage s.task line
 
 abbrev pub refused_at : Refusal → ℕ → Refused
 refused_at refusal line = record { refusal = refusal; line = line }
+
+-- what stops a line stops the text there
+abbrev pub told_at : ℕ → ReadError Refusal → ReadError Refused
+told_at line (Told refusal) = Told (refused_at refusal line)
+told_at line (Lack error) = Lack error
 
 -- the text may end among the rows of the trace alone
 abbrev pub may_end : Stage → Bool
@@ -64,7 +71,7 @@ may_end (Rows Trace) = true
 may_end (Closed s) = false
 
 abbrev pub ending : State → ℕ → Result Task Refused
-ending s n = cond (may_end s.stage) (Ok s.task) (Err (refused_at BadText n))
+ending s n = if may_end s.stage then Ok s.task else Err (refused_at BadText n)
 
 abbrev pub onward : ℕ → Result State Refusal → (State → Result Task Refused) → Result Task Refused
 onward n (Ok s) rest = rest s
@@ -81,4 +88,4 @@ abbrev pub judge : List ℕ → Result Task Refused
 judge text = read_from start 1 (lines_of text)
 
 abbrev pub read_of : List ℕ → Result Task Refused
-read_of text = cond (nat_le (length text) 32768) (judge text) (Err (refused_at BadText 0))
+read_of text = if nat_le (length text) 32768 then judge text else Err (refused_at BadText 0)

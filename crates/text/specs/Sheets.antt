@@ -1,8 +1,7 @@
 -- What has been read so far, and what one row adds to it. Assumes nothing.
-use Rattle.std.specs.Prelude.{ℕ, cond, ◌&&◌, List, [], ◌∷◌, ◌++◌, Some, None, Ok, Err, codes, Option, Result, nat_le, slice_index}
+use Rattle.std.specs.Prelude.{ℕ, if◌then◌else◌, ◌&&◌, List, [], ◌∷◌, ◌++◌, Some, None, Ok, Err, codes, Option, Result, nat_le, slice_index}
 use Rattle.fault.specs.declared.refusal.Refusal.{Refusal}
 use Rattle.fault.specs.declared.refusal.Refusal.TheVariants.{BadText}
-use Rattle.fault.specs.declared.report.Fault.{Fault}
 use Rattle.plan.specs.Drafting.{Drafted, blank, draft_counter, draft_entry, draft_page}
 use Rattle.std.specs.Str.{bytes_eq}
 use Rattle.text.specs.Numbers.{fields_of}
@@ -10,7 +9,7 @@ use Rattle.text.specs.Sections.{width_of}
 use Rattle.text.specs.Splitting.{pieces}
 use Rattle.text.specs.declared.job.Make.{Make}
 use Rattle.text.specs.declared.job.Make.TheVariants.{Flat, Nibble}
-use Rattle.text.specs.declared.job.Record.{Record}
+use Rattle.instruction.specs.declared.record.Record.{Record}
 use Rattle.text.specs.declared.sections.Section.{Section}
 use Rattle.text.specs.declared.sections.Section.TheVariants.{Memory, Pages, Entries, Counters, Trace}
 
@@ -43,10 +42,10 @@ letter_of Flat = codes "F"
 letter_of Nibble = codes "N"
 
 abbrev pub make_named : List ℕ → Option Make
-make_named w = cond (bytes_eq w (letter_of Flat)) (Some Flat) (cond (bytes_eq w (letter_of Nibble)) (Some Nibble) None)
+make_named w = if bytes_eq w (letter_of Flat) then Some Flat else (if bytes_eq w (letter_of Nibble) then Some Nibble else None)
 
 abbrev pub sized_task : Task → Make → ℕ → Result Task Refusal
-sized_task t make size = cond (nat_le size (longest_of make)) (Ok (with_memory make size t)) (Err BadText)
+sized_task t make size = if nat_le size (longest_of make) then Ok (with_memory make size t) else Err BadText
 
 abbrev pub made_task : Task → Option Make → Option (List ℕ) → Result Task Refusal
 made_task t None fs = Err BadText
@@ -63,7 +62,7 @@ record_of fs = record { op = slice_index fs 0; a = slice_index fs 1; b = slice_i
 
 abbrev pub record_task : Task → Record → Result Task Refusal
 record_task t r =
-    cond (nat_le r.op 255 && (nat_le r.a 255 && (nat_le r.b 255 && nat_le r.c 255))) (Ok (with_record r t)) (Err BadText)
+    if nat_le r.op 255 && (nat_le r.a 255 && (nat_le r.b 255 && nat_le r.c 255)) then Ok (with_record r t) else Err BadText
 
 abbrev pub draft_task : Task → Result Drafted Refusal → Result Task Refusal
 draft_task t (Ok d) = Ok (with_draft d t)
@@ -96,8 +95,3 @@ answer_of (Err refusal) = Err refusal
 abbrev pub after_of : {X : Type 0} → X → Result X Refusal → X
 after_of x (Ok y) = y
 after_of x (Err refusal) = x
-
--- a fault of the draft tells its refusal
-abbrev pub told_of : Result Unit Fault → Result Unit Refusal
-told_of (Ok x) = Ok tt
-told_of (Err fault) = Err fault.refusal

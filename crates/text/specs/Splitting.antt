@@ -1,19 +1,10 @@
 -- How a text falls into lines, and a line into words. Assumes nothing.
-use Rattle.std.specs.Prelude.{ℕ, suc, cond, List, [], ◌∷◌, ◌++◌, ◌==◌}
-
--- how many bytes stand before the first stop
-abbrev pub front : ℕ → List ℕ → ℕ
-front stop [] = 0
-front stop (x ∷ xs) = cond (x == stop) 0 (suc (front stop xs))
-
-abbrev pub on_first : ℕ → List (List ℕ) → List (List ℕ)
-on_first x [] = (x ∷ []) ∷ []
-on_first x (p ∷ ps) = (x ∷ p) ∷ ps
+use Rattle.std.specs.Prelude.{ℕ, List, [], ◌∷◌, ◌++◌, ◌==◌}
+use Rattle.std.specs.List.{join_with_byte, slice_split}
 
 -- the pieces that the stops part: one more than there are stops
 abbrev pub pieces : ℕ → List ℕ → List (List ℕ)
-pieces stop [] = [] ∷ []
-pieces stop (x ∷ xs) = cond (x == stop) ([] ∷ pieces stop xs) (on_first x (pieces stop xs))
+pieces stop text = slice_split (λ x. x == stop) text
 
 -- a line that a line feed closes, without it, or what stands after the last line feed
 pub data Line : Type 0 where
@@ -34,9 +25,7 @@ lines_of text = lines_in (pieces 10 text)
 
 -- pieces with one stop between two
 abbrev pub glued : ℕ → List (List ℕ) → List ℕ
-glued stop [] = []
-glued stop (p ∷ []) = p
-glued stop (p ∷ (q ∷ ps)) = p ++ stop ∷ glued stop (q ∷ ps)
+glued stop ps = join_with_byte stop ps
 
 -- lines, each with its line feed
 abbrev pub ended : List (List ℕ) → List ℕ

@@ -1,5 +1,6 @@
 -- What a token shows of the text, and what is left behind it. Assumes nothing.
-use Rattle.std.specs.Prelude.{◌≡◌, ℕ, ◌+◌, ◌≤◌, Bool, cond, List, [], ◌∷◌, length, Some, None, Option}
+use Rattle.std.specs.Prelude.{◌≡◌, ℕ, ◌+◌, ◌≤◌, List, [], ◌∷◌, length, Some, None, Option}
+use Rattle.std.specs.Borrow.{Bor}
 use Rattle.text.specs.Splitting.{Line, closed, unclosed, pieces}
 use Rattle.text.specs.declared.token.Part.{Part}
 use Rattle.text.specs.declared.token.Token.{Token}
@@ -40,9 +41,22 @@ place_after (line_at bytes p line) place = place + length bytes + 1
 place_after (open_at bytes p line) place = place + length bytes
 place_after (end_at p line) place = place
 
--- the words of a line that are left, and those from a word on
-abbrev pub words_left : Bool → List ℕ → List (List ℕ)
-words_left more rest = cond more (pieces 32 rest) []
+-- what stands behind a stop: its pieces, its bytes, and its bytes with the stop; nothing where there is no stop
+abbrev pub pieces_left : ℕ → Option (Bor (List ℕ)) → List (List ℕ)
+pieces_left stop None = []
+pieces_left stop (Some rest) = pieces stop rest.now
+
+abbrev pub bytes_left : Option (Bor (List ℕ)) → ℕ
+bytes_left None = 0
+bytes_left (Some rest) = length rest.now
+
+abbrev pub bytes_behind : Option (Bor (List ℕ)) → ℕ
+bytes_behind None = 0
+bytes_behind (Some rest) = length rest.now + 1
+
+-- the words of a line that are left, none once the last was taken, and those from a word on
+abbrev pub words_left : Option (Bor (List ℕ)) → List (List ℕ)
+words_left rest = pieces_left 32 rest
 
 abbrev pub words_from : Option Part → List (List ℕ) → List (List ℕ)
 words_from None behind = []

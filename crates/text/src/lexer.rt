@@ -1,4 +1,5 @@
 ghost use Rattle.std.specs.Prelude.{◌+◌, ◌≤◌, length};
+ghost use Rattle.text.specs.Tokens.{bytes_left};
 
 pub mod calls;
 
@@ -12,12 +13,11 @@ pub struct Reader<'a> {
     ghost counted: { line ≤ place + 1 },
 }
 
-// The words of one line that are left. There is one more until the last has been taken.
+// What is left of the words of one line: nothing once the last has been taken.
 #[derive(Drop)]
 pub struct Words<'a> {
-    rest: &'a [u8],
-    more: bool,
+    rest: Option<&'a [u8]>,
     place: usize,
     line: usize,
-    ghost short: { place + length rest.now ≤ 32768 },
+    ghost short: { place + bytes_left rest ≤ 32768 },
 }

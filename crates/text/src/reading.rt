@@ -1,71 +1,58 @@
-ghost use Rattle.std.specs.Prelude.{◌≡◌, IfOk};
+ghost use Rattle.std.specs.Prelude.{◌≡◌};
 ghost use Rattle.text.specs.Laws.{Earliest, Exact, Long, Once};
-ghost use Rattle.text.specs.Model.{finished, outcome, state_of};
-ghost use Rattle.text.specs.Reading.{read_from, read_of};
+ghost use Rattle.text.specs.Model.{IfAnswered, finished, outcome, state_of};
+ghost use Rattle.text.specs.Reading.{read_from, read_of, refused_at};
 ghost use Rattle.text.specs.Splitting.{lines_of};
+ghost use Rattle.fault.specs.declared.refusal.Refusal.TheVariants.{BadText};
+ghost use Rattle.text.specs.declared.job.ReadError.TheVariants.{Refused as Told};
 
-use crate::job::{Job, Refused};
+use crate::job::{Job, ReadError, Refused};
 use crate::lexer::Reader;
 use crate::sheet::Sheet;
-use crate::token::Token;
+use crate::token::{LONGEST, Token};
 use fault::refusal::Refusal;
-use std::alloc::{AllocError, Global};
+use std::alloc::Global;
 
-// How many bytes a text may have.
-const LONGEST: usize = 32768;
+// A text that is refused as such, at a line.
+fn bad_text(line: usize) -> ReadError<Refused>
+    ensures { result ≡ Told (refused_at BadText line) }
+{
+    ReadError::Refused(Refused {
+        refusal: Refusal::BadText,
+        line,
+    })
+}
 
 // Hands the lines to the sheet, up to the first that is refused.
-fn read_lines(reader: &mut Reader<'_>, sheet: &mut Sheet) -> Result<Result<(), Refused>, AllocError>
-    ensures { IfOk result (λ a. finished a (state_of sheet.new) ≡ read_from (state_of sheet.old) reader.old.line (lines_of reader.old.rest.now)) }
+fn read_lines(reader: &mut Reader<'_>, sheet: &mut Sheet) -> Result<(), ReadError<Refused>>
+    ensures { IfAnswered result (λ a. finished a (state_of sheet.new) ≡ read_from (state_of sheet.old) reader.old.line (lines_of reader.old.rest.now)) }
 {
     loop {
         match reader.next_line() {
-            Token::Line(part) => {
-                let line = part.line;
-                if let Err(refusal) = sheet.take(part)? {
-                    return Ok(Err(Refused { refusal, line }));
-                }
-            }
-            Token::Open(part) => {
-                return Ok(Err(Refused {
-                    refusal: Refusal::BadText,
-                    line: part.line,
-                }));
-            }
-            Token::End { place: _, line } => {
-                if sheet.may_end() {
-                    return Ok(Ok(()));
-                }
-                return Ok(Err(Refused {
-                    refusal: Refusal::BadText,
-                    line,
-                }));
-            }
+            Token::Line(part) => sheet.take(part).map_err(|error| error.at(part.line))?,
+            Token::Open(part) => return Err(bad_text(part.line)),
+            Token::End { .. } if sheet.may_end() => return Ok(()),
+            Token::End { line, .. } => return Err(bad_text(line)),
         }
     }
 }
 
 // Reads a text that may be too long.
-fn read_text(heap: Global, text: &[u8]) -> Result<Result<Job, Refused>, AllocError>
-    ensures { IfOk result (λ a. outcome a ≡ read_of text.now) }
+fn read_text(heap: Global, text: &[u8]) -> Result<Job, ReadError<Refused>>
+    ensures { IfAnswered result (λ a. outcome a ≡ read_of text.now) }
 {
     if text.len() > LONGEST {
-        return Ok(Err(Refused {
-            refusal: Refusal::BadText,
-            line: 0,
-        }));
+        return Err(bad_text(0));
     }
     let mut reader = Reader::new(text);
     let mut sheet = Sheet::new(heap);
-    match read_lines(&mut reader, &mut sheet)? {
-        Ok(()) => Ok(Ok(sheet.into_job())),
-        Err(refused) => Ok(Err(refused)),
-    }
+    read_lines(&mut reader, &mut sheet)?;
+    Ok(sheet.into_job())
 }
 
-// Reads a text into its job, or refuses it at its first wrong line. An error is a want of memory.
-pub fn read(heap: Global, text: &[u8]) -> Result<Result<Job, Refused>, AllocError>
-    ensures value { IfOk result (λ a. outcome a ≡ read_of text.now) }
+// Reads a text into its job, or refuses it at its first wrong line.
+pub fn read(heap: Global, text: &[u8]) -> Result<Job, ReadError<Refused>>
+    ensures value { IfAnswered result (λ a. outcome a ≡ read_of text.now) }
     ensures exact { Exact }
     ensures once { Once }
     ensures earliest { Earliest }
@@ -77,14 +64,15 @@ pub fn read(heap: Global, text: &[u8]) -> Result<Result<Job, Refused>, AllocErro
 #[cfg(test)]
 mod tests {
     use super::*;
-    use fault::refusal::Refusal;
+    use std::alloc::AllocError;
     use std::test::Fail;
 
     // Which refusal a text meets, and at which line.
     fn refused(heap: Global, text: &[u8]) -> Result<Option<(Refusal, usize)>, AllocError> {
-        match read(heap, text)? {
+        match read(heap, text) {
             Ok(_) => Ok(None),
-            Err(refused) => Ok(Some((refused.refusal, refused.line))),
+            Err(ReadError::Refused(refused)) => Ok(Some((refused.refusal, refused.line))),
+            Err(ReadError::Memory(lack)) => Err(lack),
         }
     }
 

@@ -1,133 +1,105 @@
-ghost use Rattle.std.specs.Prelude.{◌≡◌, ◌+◌, ◌≤◌, length, IfOk};
-ghost use Rattle.text.specs.Model.{task_of};
-ghost use Rattle.text.specs.Sheets.{after_of, answer_of, make_named, memory_of, row_of, told_of};
-ghost use Rattle.std.specs.Str.{bytes_eq};
+ghost use Rattle.std.specs.Prelude.{◌≡◌, Ok, Err, if◌then◌else◌, nat_le};
+ghost use Rattle.std.specs.Option.{ok_or};
+ghost use Rattle.fault.specs.declared.refusal.Refusal.TheVariants.{BadText};
+ghost use Rattle.text.specs.Model.{IfAnswered, task_of};
+ghost use Rattle.text.specs.Numbers.{fields_of};
+ghost use Rattle.text.specs.Sheets.{after_of, answer_of, memory_of, row_of};
+ghost use Rattle.text.specs.Splitting.{pieces};
 ghost use Rattle.text.specs.declared.sections.Section.TheVariants.{Pages, Entries, Counters, Trace};
 
-use crate::job::{Job, Make, Record};
+use crate::job::{Job, Make, ReadError};
 use crate::lexer::Words;
-use crate::number::fill;
+use crate::number::numbers;
 use crate::token::Part;
 use fault::refusal::Refusal;
-use fault::report::Fault;
+use instruction::record::Record;
 use std::alloc::AllocError;
 
-// Whether two stretches hold the same bytes.
-pub(crate) fn same(xs: &[u8], ys: &[u8]) -> bool
-    ensures { result ≡ bytes_eq xs.now ys.now }
+// The numbers of a row that has just so many.
+fn fields<const N: usize>(line: Part<'_>) -> Result<[u32; N], Refusal>
+    ensures { result ≡ ok_or (fields_of N (pieces 32 line.entry.bytes.now)) BadText }
 {
-    xs == ys
+    numbers(&mut Words::of(line)).ok_or(Refusal::BadText)
 }
 
-// The make that a letter names.
-fn make_named(letter: &[u8]) -> Option<Make>
-    ensures { result ≡ make_named letter.now }
+// Refuses the text where a test fails.
+pub(crate) fn demand(test: bool) -> Result<(), Refusal>
+    ensures { result ≡ if test then Ok tt else Err BadText }
 {
-    if same(letter, b"F") {
-        return Some(Make::Flat);
-    }
-    if same(letter, b"N") {
-        return Some(Make::Nibble);
-    }
-    None
+    test.then_some(()).ok_or(Refusal::BadText)
 }
 
-// What the draft answered, without its place and cause.
-fn told(answer: Result<(), Fault>) -> Result<(), Refusal>
-    ensures { result ≡ told_of answer }
+// The byte of a number up to 255.
+fn byte(n: u32) -> Result<u8, Refusal>
+    ensures { result ≡ if nat_le n 255 then Ok n else Err BadText }
 {
-    match answer {
-        Ok(()) => Ok(()),
-        Err(fault) => Err(fault.refusal),
-    }
+    u8::try_from(n).map_err(|_| Refusal::BadText)
 }
 
 impl Job {
     // A row of section 1: a letter and a size.
     pub(crate) fn memory_row(&mut self, line: Part<'_>) -> Result<(), Refusal>
-        requires { line.place + length line.bytes.now ≤ 32768 }
         ensures answer { result ≡ answer_of (memory_of (task_of self.old) line.entry.bytes.now) }
         ensures after { task_of self.new ≡ after_of (task_of self.old) (memory_of (task_of self.old) line.entry.bytes.now) }
     {
         let mut words = Words::of(line);
-        let Some(letter) = words.next_word() else {
-            return Err(Refusal::BadText);
-        };
-        let Some(make) = make_named(letter.bytes) else {
-            return Err(Refusal::BadText);
-        };
-        let mut fields = [0; 1];
-        if !fill(&mut words, &mut fields) {
-            return Err(Refusal::BadText);
-        }
-        let size = fields[0] as usize;
-        if size > make.longest() {
-            return Err(Refusal::BadText);
-        }
+        let letter = words.next_word().ok_or(Refusal::BadText)?;
+        let make = Make::try_from(letter.bytes)?;
+        let [size] = numbers::<1>(&mut words).ok_or(Refusal::BadText)?;
+        let size = size as usize;
+        demand(size <= make.longest())?;
         self.make = make;
         self.size = size;
         Ok(())
     }
 
     // A row of section 2: PAGE.
+    // Kept: this row and the next two share all that is plain to share; each has its own count of numbers and its own call.
     pub(crate) fn page_row(&mut self, line: Part<'_>) -> Result<(), Refusal>
-        requires { line.place + length line.bytes.now ≤ 32768 }
         ensures answer { result ≡ answer_of (row_of Pages (task_of self.old) line.entry.bytes.now) }
         ensures after { task_of self.new ≡ after_of (task_of self.old) (row_of Pages (task_of self.old) line.entry.bytes.now) }
     {
-        let mut fields = [0; 3];
-        if !fill(&mut Words::of(line), &mut fields) {
-            return Err(Refusal::BadText);
-        }
-        told(self.draft.page(fields[0], fields[1], fields[2]))
+        let [page, tag, bits] = fields::<3>(line)?;
+        self.draft
+            .page(page, tag, bits)
+            .map_err(|fault| fault.refusal)
     }
 
     // A row of section 3: ENTRY.
     pub(crate) fn entry_row(&mut self, line: Part<'_>) -> Result<(), Refusal>
-        requires { line.place + length line.bytes.now ≤ 32768 }
         ensures answer { result ≡ answer_of (row_of Entries (task_of self.old) line.entry.bytes.now) }
         ensures after { task_of self.new ≡ after_of (task_of self.old) (row_of Entries (task_of self.old) line.entry.bytes.now) }
     {
-        let mut fields = [0; 3];
-        if !fill(&mut Words::of(line), &mut fields) {
-            return Err(Refusal::BadText);
-        }
-        told(self.draft.entry(fields[0], fields[1], fields[2]))
+        let [tag, to, level] = fields::<3>(line)?;
+        self.draft
+            .entry(tag, to, level)
+            .map_err(|fault| fault.refusal)
     }
 
     // A row of section 4: COUNTER.
     pub(crate) fn counter_row(&mut self, line: Part<'_>) -> Result<(), Refusal>
-        requires { line.place + length line.bytes.now ≤ 32768 }
         ensures answer { result ≡ answer_of (row_of Counters (task_of self.old) line.entry.bytes.now) }
         ensures after { task_of self.new ≡ after_of (task_of self.old) (row_of Counters (task_of self.old) line.entry.bytes.now) }
     {
-        let mut fields = [0; 2];
-        if !fill(&mut Words::of(line), &mut fields) {
-            return Err(Refusal::BadText);
-        }
-        told(self.draft.counter(fields[0], fields[1]))
+        let [counter, owner] = fields::<2>(line)?;
+        self.draft
+            .counter(counter, owner)
+            .map_err(|fault| fault.refusal)
     }
 
     // A row of section 5: a record of the trace.
-    pub(crate) fn record_row(&mut self, line: Part<'_>) -> Result<Result<(), Refusal>, AllocError>
-        requires { line.place + length line.bytes.now ≤ 32768 }
-        ensures { IfOk result (λ a. (a ≡ answer_of (row_of Trace (task_of self.old) line.entry.bytes.now)) × (task_of self.new ≡ after_of (task_of self.old) (row_of Trace (task_of self.old) line.entry.bytes.now))) }
+    pub(crate) fn record_row(&mut self, line: Part<'_>) -> Result<(), ReadError<Refusal>>
+        ensures { IfAnswered result (λ a. (a ≡ answer_of (row_of Trace (task_of self.old) line.entry.bytes.now)) × (task_of self.new ≡ after_of (task_of self.old) (row_of Trace (task_of self.old) line.entry.bytes.now))) }
     {
-        let mut fields = [0; 5];
-        if !fill(&mut Words::of(line), &mut fields) {
-            return Ok(Err(Refusal::BadText));
-        }
-        let [op, a, b, c, v] = fields;
-        if op > 255 || a > 255 || b > 255 || c > 255 {
-            return Ok(Err(Refusal::BadText));
-        }
-        self.records.push(Record {
-            op: op as u8,
-            a: a as u8,
-            b: b as u8,
-            c: c as u8,
+        let [op, a, b, c, v] = fields::<5>(line)?;
+        let record = Record {
+            op: byte(op)?,
+            a: byte(a)?,
+            b: byte(b)?,
+            c: byte(c)?,
             v,
-        })?;
-        Ok(Ok(()))
+        };
+        self.records.push(record).map_err(AllocError::from)?;
+        Ok(())
     }
 }

@@ -2,7 +2,7 @@ ghost use Rattle.std.specs.Prelude.{◌≡◌};
 ghost use Rattle.text.specs.Sections.{blank_closes, names_of, next_of};
 
 // The five sections of a text, in their order.
-#[derive(Clone, Copy)]
+#[derive(Clone, Copy, Debug, PartialEq, Eq)]
 pub enum Section {
     Memory,
     Pages,
@@ -12,7 +12,7 @@ pub enum Section {
 }
 
 // What the next line must be: a section's names, one of its rows, or the blank line behind its only row.
-#[derive(Clone, Copy)]
+#[derive(Clone, Copy, Debug, PartialEq, Eq)]
 pub enum Stage {
     Names(Section),
     Rows(Section),

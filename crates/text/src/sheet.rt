@@ -1,15 +1,15 @@
-ghost use Rattle.std.specs.Prelude.{◌≡◌, ◌+◌, ◌≤◌, length, IfOk};
-ghost use Rattle.text.specs.Model.{state_of, task_of};
+ghost use Rattle.std.specs.Prelude.{◌≡◌};
+ghost use Rattle.text.specs.Model.{IfAnswered, state_of, task_of};
 ghost use Rattle.text.specs.Reading.{may_end, row_at, start, step_line};
 ghost use Rattle.text.specs.Sheets.{after_of, answer_of};
 
-use crate::job::{Job, Make};
-use crate::rows::same;
+use crate::job::{Job, Make, ReadError};
+use crate::rows::demand;
 use crate::sections::{Section, Stage};
 use crate::token::Part;
 use fault::refusal::Refusal;
 use plan::draft::Draft;
-use std::alloc::{AllocError, Global};
+use std::alloc::Global;
 
 // What has been read of a text, and what its next line must be.
 #[derive(Drop)]
@@ -49,52 +49,42 @@ impl Sheet {
     }
 
     // A row of a section.
-    fn row(&mut self, section: Section, line: Part<'_>) -> Result<Result<(), Refusal>, AllocError>
-        requires { (line.place + length line.bytes.now ≤ 32768) × (self.old.stage ≡ Stage.Rows section) }
-        ensures { IfOk result (λ a. (a ≡ answer_of (row_at section (task_of self.old.job) line.entry.bytes.now)) × (state_of self.new ≡ after_of (state_of self.old) (row_at section (task_of self.old.job) line.entry.bytes.now))) }
+    fn row(&mut self, section: Section, line: Part<'_>) -> Result<(), ReadError<Refusal>>
+        requires { self.old.stage ≡ Stage.Rows section }
+        ensures { IfAnswered result (λ a. (a ≡ answer_of (row_at section (task_of self.old.job) line.entry.bytes.now)) × (state_of self.new ≡ after_of (state_of self.old) (row_at section (task_of self.old.job) line.entry.bytes.now))) }
     {
+        // Kept: each section's row is a method of its own, and a match on the enum names them most plainly.
         match section {
-            Section::Memory => match self.job.memory_row(line) {
-                Ok(()) => {
-                    self.stage = Stage::Closed(section);
-                    Ok(Ok(()))
-                }
-                Err(refusal) => Ok(Err(refusal)),
-            },
-            Section::Pages => Ok(self.job.page_row(line)),
-            Section::Entries => Ok(self.job.entry_row(line)),
-            Section::Counters => Ok(self.job.counter_row(line)),
-            Section::Trace => self.job.record_row(line),
+            Section::Memory => {
+                self.job.memory_row(line)?;
+                self.stage = Stage::Closed(section);
+            }
+            Section::Pages => self.job.page_row(line)?,
+            Section::Entries => self.job.entry_row(line)?,
+            Section::Counters => self.job.counter_row(line)?,
+            Section::Trace => self.job.record_row(line)?,
         }
+        Ok(())
     }
 
     // Takes the next line, without its line feed. A refused line leaves the sheet as it was.
-    pub(crate) fn take(&mut self, line: Part<'_>) -> Result<Result<(), Refusal>, AllocError>
-        requires { line.place + length line.bytes.now ≤ 32768 }
-        ensures { IfOk result (λ a. (a ≡ answer_of (step_line (state_of self.old) line.entry.bytes.now)) × (state_of self.new ≡ after_of (state_of self.old) (step_line (state_of self.old) line.entry.bytes.now))) }
+    pub(crate) fn take(&mut self, line: Part<'_>) -> Result<(), ReadError<Refusal>>
+        ensures { IfAnswered result (λ a. (a ≡ answer_of (step_line (state_of self.old) line.entry.bytes.now)) × (state_of self.new ≡ after_of (state_of self.old) (step_line (state_of self.old) line.entry.bytes.now))) }
     {
         match self.stage {
             Stage::Names(section) => {
-                if !same(line.bytes, section.names()) {
-                    return Ok(Err(Refusal::BadText));
-                }
+                demand(line.bytes == section.names())?;
                 self.stage = Stage::Rows(section);
-                Ok(Ok(()))
             }
-            Stage::Rows(section) => {
-                if section.closes() && line.bytes.is_empty() {
-                    self.stage = Stage::Names(section.next());
-                    return Ok(Ok(()));
-                }
-                self.row(section, line)
-            }
-            Stage::Closed(section) => {
-                if !line.bytes.is_empty() {
-                    return Ok(Err(Refusal::BadText));
-                }
+            Stage::Rows(section) if section.closes() && line.bytes.is_empty() => {
                 self.stage = Stage::Names(section.next());
-                Ok(Ok(()))
+            }
+            Stage::Rows(section) => self.row(section, line)?,
+            Stage::Closed(section) => {
+                demand(line.bytes.is_empty())?;
+                self.stage = Stage::Names(section.next());
             }
         }
+        Ok(())
     }
 }

@@ -1,29 +1,16 @@
--- One row more of a trace, and memories of zeros. Assumes nothing.
-use Rattle.std.proofs.Common.{◌≡◌, ℕ, zero, suc, ◌+◌, ◌*◌, ◌<◌, ◌≤◌, List, ◌∷◌, ◌++◌, length, get_or, take, drop, replicate, sym, refl, ap, ◌∙◌, append_assoc, append-nil, arith}
-use Rattle.machine.specs.Runs.{answer, obey, step}
-use Rattle.machine.specs.State.{State}
+-- The end of a trace, and memories of zeros. Assumes nothing.
+use Rattle.std.proofs.Common.{◌≡◌, ℕ, zero, suc, ◌+◌, ◌*◌, ◌≤◌, List, [], ◌∷◌, ◌++◌, length, take, replicate, OnOk, Result, sym, refl, ap, ◌∙◌, subst, append-nil, arith}
+use Rattle.instruction.specs.declared.record.Record.{Record}
+use Rattle.machine.specs.State.{State, started}
 use Rattle.memory.specs.Meaning.{join_halves}
-use Rattle.std.proofs.lemmas.List.{at_drop_all, at_drop_more, length-replicate, take_all}
-use Rattle.text.specs.declared.job.Record.{Record}
-use Rattle.transcript.specs.Printed.{answer_row, encoded, rows_from}
+use Rattle.std.proofs.lemmas.List.{length-replicate, take_all}
+use Rattle.text.specs.Sheets.{Task}
+use Rattle.transcript.specs.Printed.{rows_from, start_of}
 
-abbrev pub no_record : Record
-no_record = record { op = 0; a = 0; b = 0; c = 0; v = 0 }
-
--- what is printed so far and what is still to come, before and after a row
-pub row_more : (s t : State) (i : ℕ) (rs : List Record) (out next all : List ℕ) → i < length rs → t ≡ step s (obey (encoded (get_or rs i no_record))) → next ≡ out ++ answer_row (i + 1) (answer s (obey (encoded (get_or rs i no_record)))) → out ++ rows_from s (i + 1) (drop i rs) ≡ all → next ++ rows_from t (i + 1 + 1) (drop (i + 1) rs) ≡ all
-row_more s t i rs out next all h f g inv =
-    let r = get_or rs i no_record in
-    let row = answer_row (i + 1) (answer s (obey (encoded r))) in
-    let rest = rows_from (step s (obey (encoded r))) (i + 1 + 1) (drop (i + 1) rs) in
-    ap (λ (u : State). next ++ rows_from u (i + 1 + 1) (drop (i + 1) rs)) f
-    ∙ ap (λ ys. ys ++ rest) g
-    ∙ append_assoc out row rest
-    ∙ ap (λ ys. out ++ ys) (sym (at_drop_more (rows_from s (i + 1)) rs i no_record h))
-    ∙ inv
-
-pub row_all : (s : State) (i n : ℕ) (rs : List Record) (out : List ℕ) → length rs ≤ i → out ++ rows_from s n (drop i rs) ≡ out
-row_all s i n rs out h = ap (λ ys. out ++ ys) (at_drop_all (rows_from s n) rs i h) ∙ append-nil out
+-- with no record left, all is printed
+pub rows_none : (s : State) (n : ℕ) (rs : List Record) (out all : List ℕ) → length rs ≡ 0 → out ++ rows_from s n rs ≡ all → out ≡ all
+rows_none s n [] out all h e = sym (append-nil out) ∙ e
+rows_none s n (r ∷ rs) out all h e = let y : ⊥ = omega arith in absurd y
 
 pub flat_zeros : (n : ℕ) → n ≤ 32768 → take {A = ℕ} 32768 (replicate n 0) ≡ replicate n 0
 flat_zeros n h = take_all {A = ℕ} 32768 (replicate n 0) (omega (arith, length-replicate {A = ℕ} n 0))
@@ -40,3 +27,9 @@ pub nibble_zeros : (n : ℕ) → n ≤ 16384 → join_halves 16384 (replicate (2
 nibble_zeros n h =
     let e : 2 * n ≡ n + n = omega arith in
     ap (λ k. join_halves 16384 (replicate k 0)) e ∙ halves 16384 n h
+
+-- what is printed of a run over a memory of zeros
+pub zeros_run : {E : Type 0} (task : Task) (bytes : List ℕ) (rs : List Record) (r : Result Unit E) (old new : List ℕ) → bytes ≡ replicate task.size 0 → rs ≡ task.records → OnOk r (new ≡ old ++ rows_from (record { plan = task.draft.plan; core = started; bytes = bytes }) 1 rs) → OnOk r (new ≡ old ++ rows_from (start_of task) 1 task.records)
+zeros_run task bytes rs r old new e f h =
+    subst (λ (ys : List Record). OnOk r (new ≡ old ++ rows_from (start_of task) 1 ys)) f
+    (subst (λ (ys : List ℕ). OnOk r (new ≡ old ++ rows_from (record { plan = task.draft.plan; core = started; bytes = ys }) 1 rs)) e h)

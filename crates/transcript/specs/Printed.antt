@@ -1,20 +1,16 @@
 -- What is printed of a text. Assumes nothing.
-use Rattle.std.specs.Prelude.{ℕ, ◌+◌, ◌/◌, ◌%◌, List, [], ◌∷◌, ◌++◌, replicate, Ok, Err, Result}
+use Rattle.std.specs.Prelude.{ℕ, ◌+◌, List, [], ◌∷◌, ◌++◌, replicate, Ok, Err, Result}
 use Rattle.fault.specs.Refusals.{number_of}
 use Rattle.fault.specs.declared.report.Fault.{Fault}
+use Rattle.instruction.specs.Decoding.{encoded}
 use Rattle.machine.specs.Runs.{answer, obey, step}
 use Rattle.machine.specs.State.{State, started}
 use Rattle.machine.specs.declared.answer.Done.{Done}
 use Rattle.transcript.specs.Printing.{printed_names, printed_refusal, printed_row}
 use Rattle.text.specs.Reading.{read_of}
 use Rattle.text.specs.Sheets.{Task}
-use Rattle.text.specs.declared.job.Record.{Record}
+use Rattle.instruction.specs.declared.record.Record.{Record}
 use Rattle.text.specs.declared.job.Refused.{Refused}
-
--- the eight bytes of a record: code, a, b, c, then v, low byte first
-abbrev pub encoded : Record → List ℕ
-encoded r =
-    r.op ∷ r.a ∷ r.b ∷ r.c ∷ (r.v % 256) ∷ (r.v / 256 % 256) ∷ (r.v / 65536 % 256) ∷ (r.v / 16777216 % 256) ∷ []
 
 -- an accepted record prints 0, its place and its value; a refused one its number, the old place and 0
 abbrev pub answer_row : ℕ → Result Done Fault → List ℕ

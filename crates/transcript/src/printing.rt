@@ -1,7 +1,10 @@
 ghost use Rattle.std.specs.Prelude.{◌≡◌, ◌++◌, string_bytes, OnOk};
 ghost use Rattle.fault.specs.Refusals.{number_of};
-ghost use Rattle.transcript.specs.Printing.{printed_names, printed_refusal, printed_row};
+ghost use Rattle.transcript.specs.Printed.{answer_row};
+ghost use Rattle.transcript.specs.Printing.{printed_names, printed_refusal};
 
+use fault::report::Fault;
+use machine::answer::Done;
 use std::alloc::AllocError;
 use text::job::Refused;
 
@@ -9,34 +12,29 @@ use text::job::Refused;
 pub(crate) fn push_names(out: &mut String) -> Result<(), AllocError>
     ensures { OnOk result (string_bytes out.new ≡ string_bytes out.old ++ printed_names) }
 {
-    out.push_str("line answer place value\n")?;
-    Ok(())
+    out.push_str("line answer place value\n")
 }
 
 // The line of one record: its number from 1, 0 or the refusal's number, the place and the value.
 pub(crate) fn push_row(
     out: &mut String,
     line: usize,
-    answer: u8,
-    place: usize,
-    value: u32,
+    said: Result<Done, Fault>,
 ) -> Result<(), AllocError>
-    ensures { OnOk result (string_bytes out.new ≡ string_bytes out.old ++ printed_row line answer place value) }
+    ensures { OnOk result (string_bytes out.new ≡ string_bytes out.old ++ answer_row line said) }
 {
-    match write!(out, "{line} {answer} {place} {value}\n") {
-        Ok(()) => Ok(()),
-        Err(_) => Err(AllocError),
-    }
+    let (answer, place, value) = match said {
+        Ok(done) => (0, done.place, done.value),
+        Err(fault) => (u8::from(fault.refusal), fault.place, 0),
+    };
+    writeln!(out, "{line} {answer} {place} {value}")
 }
 
 // The two lines of a refused text.
 pub(crate) fn push_refused(out: &mut String, refused: Refused) -> Result<(), AllocError>
     ensures { OnOk result (string_bytes out.new ≡ string_bytes out.old ++ printed_refusal (number_of refused.refusal) refused.line) }
 {
-    let number = refused.refusal.number();
+    let number = u8::from(refused.refusal);
     let line = refused.line;
-    match write!(out, "refused line\n{number} {line}\n") {
-        Ok(()) => Ok(()),
-        Err(_) => Err(AllocError),
-    }
+    writeln!(out, "refused line\n{number} {line}")
 }

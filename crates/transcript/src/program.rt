@@ -6,13 +6,14 @@ ghost use Rattle.transcript.specs.Printed.{rows_from, start_of, transcript};
 
 use crate::printing::{push_names, push_refused};
 use crate::trace::trace;
+use instruction::record::Record;
 use machine::machine::Machine;
 use memory::Memory;
 use memory::flat::Flat;
 use memory::nibble::Nibble;
 use plan::draft::Draft;
 use std::alloc::{AllocError, Global};
-use text::job::{Job, Make, Record};
+use text::job::{Job, Make, ReadError};
 use text::reading::read;
 
 // Seals a draft with a memory, obeys the records and prints their rows.
@@ -41,11 +42,11 @@ fn run_job(heap: Global, out: &mut String, job: Job) -> Result<(), AllocError>
     match make {
         Make::Flat => {
             let mut area = vec![in heap; 0u8; size]?;
-            run_over(out, draft, Flat::new(&mut area), records.as_slice())
+            run_over(out, draft, Flat::new(&mut area), &records)
         }
         Make::Nibble => {
             let mut area = vec![in heap; 0u8; 2 * size]?;
-            run_over(out, draft, Nibble::new(&mut area), records.as_slice())
+            run_over(out, draft, Nibble::new(&mut area), &records)
         }
     }
 }
@@ -55,12 +56,13 @@ pub fn run(heap: Global, text: &[u8]) -> Result<String, AllocError>
     ensures { IfOk result (λ out. string_bytes out ≡ transcript text.now) }
 {
     let mut out = String::new(heap);
-    match read(heap, text)? {
+    match read(heap, text) {
         Ok(job) => {
             push_names(&mut out)?;
             run_job(heap, &mut out, job)?;
         }
-        Err(refused) => push_refused(&mut out, refused)?,
+        Err(ReadError::Refused(refused)) => push_refused(&mut out, refused)?,
+        Err(ReadError::Memory(lack)) => return Err(lack),
     }
     Ok(out)
 }

@@ -1,6 +1,7 @@
 //! Reads a plan and a trace from standard input and prints the answers. Nothing else is done here.
 #![tactic(auto)]
 
+use std::io;
 use std::io::Read;
 use transcript::program::run;
 
@@ -8,19 +9,15 @@ use transcript::program::run;
 const ENOUGH: u64 = 32769;
 
 // Standard input, up to as many bytes as are needed.
-fn read_input(rt: &HostRuntime) -> anyhow::Result<Vec<u8>> {
+fn read_input(rt: &(impl Input + AllocGlobal)) -> io::Result<Vec<u8>> {
     let mut text = Vec::new(rt.alloc());
-    rt.stdin().take(ENOUGH).read_to_end(&mut text)?;
+    rt.reader().take(ENOUGH).read_to_end(&mut text)?;
     Ok(text)
 }
 
-fn answer(rt: &HostRuntime) -> anyhow::Result<()> {
-    let text = read_input(rt)?;
-    let printed = run(rt.alloc(), text.as_slice())?;
-    rt.print(printed.as_str())?;
-    Ok(())
-}
-
 fn main(rt: HostRuntime) -> anyhow::Result<()> {
-    answer(&rt)
+    let text = read_input(&rt)?;
+    let printed = run(rt.alloc(), &text)?;
+    print!(rt; "{printed}")?;
+    Ok(())
 }

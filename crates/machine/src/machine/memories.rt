@@ -13,19 +13,17 @@ impl<M: Memory> Machine<M> {
     pub(crate) fn read_byte(&self, address: usize) -> Result<u8, Fault>
         ensures { result ≡ told_at (place_of (core_of self.now)) (read_of (M.bytes self.now.memory) address) }
     {
-        match self.memory.read(address) {
-            Ok(byte) => Ok(byte),
-            Err(fault) => Err(fault.at(self.engine.place)),
-        }
+        self.memory
+            .read(address)
+            .map_err(|fault| fault.at(self.engine.place))
     }
 
     pub(crate) fn write_byte(&mut self, address: usize, byte: u8) -> Result<(), Fault>
         ensures answer { result ≡ told_at (place_of (core_of self.old)) (write_of (M.bytes self.old.memory) address) }
         ensures after { model M.bytes self.new ≡ record { plan = plan_of self.old; core = core_of self.old; bytes = wrote result (M.bytes self.old.memory) address byte } }
     {
-        match self.memory.write(address, byte) {
-            Ok(()) => Ok(()),
-            Err(fault) => Err(fault.at(self.engine.place)),
-        }
+        self.memory
+            .write(address, byte)
+            .map_err(|fault| fault.at(self.engine.place))
     }
 }

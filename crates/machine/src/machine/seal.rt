@@ -1,5 +1,5 @@
 ghost use Rattle.std.specs.Prelude.{◌≡◌};
-ghost use Rattle.machine.specs.Model.{core_of, model, plan_of};
+ghost use Rattle.machine.specs.Model.{core_of, model};
 ghost use Rattle.machine.specs.State.{started};
 ghost use Rattle.plan.specs.Model.{drafted};
 
@@ -32,15 +32,7 @@ impl<M: Memory> Machine<M> {
     pub fn into_memory(self) -> M
         ensures { result ≡ self.memory }
     {
-        let Machine {
-            engine: _,
-            slots: _,
-            counters: _,
-            panel: _,
-            plan: _,
-            memory,
-        } = self;
-        memory
+        self.memory
     }
 
     // The number that the panel shows.

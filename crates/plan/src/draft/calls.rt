@@ -1,4 +1,4 @@
-ghost use Rattle.std.specs.Prelude.{◌≡◌, Err};
+ghost use Rattle.std.specs.Prelude.{◌≡◌, if◌then◌else◌, Ok, Err};
 ghost use Rattle.plan.specs.Drafting.{blank, draft_after, draft_answer, draft_counter, draft_entry, draft_page};
 ghost use Rattle.fault.specs.Faults.{bare_fault};
 ghost use Rattle.plan.specs.Model.{drafted, planned};
@@ -7,14 +7,21 @@ use super::Draft;
 use crate::keyed::find;
 use crate::records::{Entry, Page, StorePage};
 use crate::tables::Plan;
+use arrayvec::ArrayVec;
 use fault::level::Level;
 use fault::refusal::Refusal;
 use fault::report::Fault;
+use std::array;
 
-fn refused(refusal: Refusal) -> Result<(), Fault>
-    ensures { result ≡ Err (bare_fault refusal 0) }
+// Passes, or refuses with a fault that tells nothing more.
+fn demand(test: bool, refusal: Refusal) -> Result<(), Fault>
+    ensures { result ≡ (if test then Ok tt else Err (bare_fault refusal 0)) }
 {
-    Err(Fault::bare(refusal, 0))
+    if test {
+        Ok(())
+    } else {
+        Err(Fault::bare(refusal, 0))
+    }
 }
 
 impl Draft {
@@ -22,19 +29,15 @@ impl Draft {
     pub fn new() -> Draft
         ensures { drafted result ≡ blank }
     {
-        let mut pages = [Page { tag: 0, bits: 0 }; 128];
+        let mut pages = [Page::default(); 128];
         pages[0] = Page { tag: 1, bits: 5 };
         Draft {
             plan: Plan {
                 pages,
-                lists: [[Entry {
-                    tag: 0,
-                    level: Level::Nothing,
-                }; 12]; 64],
-                owners: [0; 17],
-                stores: [StorePage { page: 0 }; 8],
+                lists: array::from_fn(|_| ArrayVec::new()),
+                owners: [None; 17],
+                stores: ArrayVec::new(),
             },
-            given: [false; 17],
         }
     }
 
@@ -43,30 +46,25 @@ impl Draft {
         ensures answer { result ≡ draft_answer (draft_page (drafted self.old) page tag bits) }
         ensures after { drafted self.new ≡ draft_after (drafted self.old) (draft_page (drafted self.old) page tag bits) }
     {
-        if page < 1 || page > 127 {
-            return refused(Refusal::DraftNumber);
-        }
-        if tag < 1 || tag > 63 {
-            return refused(Refusal::DraftTag);
-        }
-        if bits > 31 || (bits / 16 % 2 == 1 && bits / 4 % 2 == 1) {
-            return refused(Refusal::DraftBits);
-        }
-        if self.plan.pages[page as usize].tag != 0 {
-            return refused(Refusal::DraftRepeat);
-        }
+        demand((1..=127).contains(&page), Refusal::DraftNumber)?;
+        demand((1..=63).contains(&tag), Refusal::DraftTag)?;
+        demand(
+            bits <= 31 && !(bits / 16 % 2 == 1 && bits / 4 % 2 == 1),
+            Refusal::DraftBits,
+        )?;
+        demand(
+            self.plan.pages[page as usize].tag == 0,
+            Refusal::DraftRepeat,
+        )?;
+        // Kept: `as`, here and below, since the checks above bound the numbers; with try_from a branch never runs.
         let planned = Page {
             tag: tag as u8,
             bits: bits as u8,
         };
-        if !planned.stores() {
-            self.plan.pages[page as usize] = planned;
-            return Ok(());
+        if planned.stores() {
+            demand(!self.plan.stores.is_full(), Refusal::DraftFull)?;
+            self.plan.stores.push(StorePage { page: page as u8 });
         }
-        let Some(i) = find(&self.plan.stores, 0) else {
-            return refused(Refusal::DraftFull);
-        };
-        self.plan.stores[i] = StorePage { page: page as u8 };
         self.plan.pages[page as usize] = planned;
         Ok(())
     }
@@ -76,24 +74,20 @@ impl Draft {
         ensures answer { result ≡ draft_answer (draft_entry (drafted self.old) tag to level) }
         ensures after { drafted self.new ≡ draft_after (drafted self.old) (draft_entry (drafted self.old) tag to level) }
     {
-        if tag < 1 || tag > 63 || to < 1 || to > 63 || tag == to {
-            return refused(Refusal::DraftTag);
-        }
-        let Some(level) = Level::named(level) else {
-            return refused(Refusal::DraftBits);
-        };
-        let mut list = self.plan.lists[tag as usize];
-        if find(&list, to as usize).is_some() {
-            return refused(Refusal::DraftRepeat);
-        }
-        let Some(i) = find(&list, 0) else {
-            return refused(Refusal::DraftFull);
-        };
-        list[i] = Entry {
+        let tags = 1..=63;
+        demand(
+            tags.contains(&tag) && tags.contains(&to) && tag != to,
+            Refusal::DraftTag,
+        )?;
+        let level = Level::try_from(level).map_err(|_| Fault::bare(Refusal::DraftBits, 0))?;
+        let lists = &mut self.plan.lists[..];
+        let list = &mut lists[tag as usize];
+        demand(find(list, to as usize).is_none(), Refusal::DraftRepeat)?;
+        demand(!list.is_full(), Refusal::DraftFull)?;
+        list.push(Entry {
             tag: to as u8,
             level,
-        };
-        self.plan.lists[tag as usize] = list;
+        });
         Ok(())
     }
 
@@ -102,17 +96,11 @@ impl Draft {
         ensures answer { result ≡ draft_answer (draft_counter (drafted self.old) counter owner) }
         ensures after { drafted self.new ≡ draft_after (drafted self.old) (draft_counter (drafted self.old) counter owner) }
     {
-        if counter < 1 || counter > 16 {
-            return refused(Refusal::DraftNumber);
-        }
-        if owner > 63 {
-            return refused(Refusal::DraftTag);
-        }
-        if self.given[counter as usize] {
-            return refused(Refusal::DraftRepeat);
-        }
-        self.plan.owners[counter as usize] = owner as u8;
-        self.given[counter as usize] = true;
+        demand((1..=16).contains(&counter), Refusal::DraftNumber)?;
+        demand(owner <= 63, Refusal::DraftTag)?;
+        let old = self.plan.owners[counter as usize];
+        demand(old.is_none(), Refusal::DraftRepeat)?;
+        self.plan.owners[counter as usize] = Some(owner as u8);
         Ok(())
     }
 
@@ -120,7 +108,7 @@ impl Draft {
     pub fn into_plan(self) -> Plan
         ensures { planned result ≡ (drafted self).plan }
     {
-        let Draft { plan, given: _ } = self;
+        let Draft { plan } = self;
         plan
     }
 }

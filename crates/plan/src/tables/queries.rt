@@ -1,26 +1,29 @@
 ghost use Rattle.std.specs.Prelude.{◌≡◌, ℕ, ◌/◌, ◌<◌, true, is_some, IfSome, Some};
+ghost use Rattle.std.specs.List.{position};
 ghost use Rattle.plan.specs.Chart.{has_bit};
 ghost use Rattle.plan.specs.Model.{planned};
-ghost use Rattle.plan.specs.Tables.{decides, entry_at, level_for, owner_of, page_at, slot_at};
+ghost use Rattle.plan.specs.Tables.{decides, entry_at, for_tag, level_for, level_found, owner_of, page_at, slot_at};
 
 use super::Plan;
 use crate::chart::{Question, decide};
 use crate::keyed::find;
-use crate::records::Page;
+use crate::records::{Entry, Page};
 use fault::level::Level;
 use fault::refusal::Refusal;
+
+// The level of a list's entry for a tag.
+fn level_in(list: &[Entry], other: u8) -> Level
+    ensures { result ≡ level_found list.now (position (for_tag other) list.now) }
+{
+    find(list, usize::from(other)).map_or(Level::Nothing, |i| list[i].level)
+}
 
 impl Plan {
     // The page of an address; one that is on no page counts as unplanned.
     pub fn page_at(&self, address: usize) -> Page
         ensures { result ≡ page_at (planned self.now) address }
     {
-        let page = address / 256;
-        if page < 128 {
-            self.pages[page]
-        } else {
-            Page { tag: 0, bits: 0 }
-        }
+        self.pages.get(address / 256).copied().unwrap_or_default()
     }
 
     // The level that one tag has for another.
@@ -33,25 +36,21 @@ impl Plan {
         if tag == other {
             return Level::Write;
         }
-        if tag >= 64 {
-            return Level::Nothing;
-        }
-        let list = &self.lists[tag as usize];
-        match find(list, other as usize) {
-            Some(i) => list[i].level,
-            None => Level::Nothing,
-        }
+        self.lists
+            .get(usize::from(tag))
+            .map_or(Level::Nothing, |list| level_in(list, other))
     }
 
     // The owner of a counter, 0 for the host.
+    // Kept: a number, since the rules give the host 0 and compare an owner with the current tag.
     pub fn owner(&self, counter: u8) -> u8
         ensures { result ≡ owner_of (planned self.now) counter }
     {
-        if counter < 17 {
-            self.owners[counter as usize]
-        } else {
-            0
-        }
+        self.owners
+            .get(usize::from(counter))
+            .copied()
+            .flatten()
+            .unwrap_or(0)
     }
 
     // What entering at an address asks of its page.
@@ -78,9 +77,6 @@ impl Plan {
         ensures there { has_bit 16 (page_at (planned self.now) address).bits ≡ true → is_some result ≡ true }
         ensures own { IfSome result (λ i. (i < 64) × ((b : ℕ) → slot_at (planned self.now) b ≡ Some i → b / 32 ≡ address / 32)) }
     {
-        match find(&self.stores, address / 256) {
-            Some(i) => Some(8 * i + address % 256 / 32),
-            None => None,
-        }
+        find(&self.stores, address / 256).map(|i| 8 * i + address % 256 / 32)
     }
 }

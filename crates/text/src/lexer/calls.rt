@@ -1,21 +1,19 @@
-ghost use Rattle.std.specs.Prelude.{◌≡◌, ◌+◌, ◌≤◌, length, IfSome};
-ghost use Rattle.text.specs.Splitting.{front, lines_of, pieces};
-ghost use Rattle.text.specs.Tokens.{Stands, line_after, lines_from, place_after, seen, words_from, words_left};
+ghost use Rattle.std.specs.Prelude.{◌≡◌, ◌+◌, ◌≤◌, ◌∷◌, length, IfSome};
+ghost use Rattle.text.specs.Splitting.{lines_of, pieces};
+ghost use Rattle.text.specs.Tokens.{Stands, bytes_behind, bytes_left, line_after, lines_from, pieces_left, place_after, seen, words_from, words_left};
 
 use super::{Reader, Words};
 use crate::token::{Part, Token};
 
-// How many bytes stand before the first stop, or all of them where there is none.
-fn cut(bytes: &[u8], stop: u8) -> usize
-    ensures value { result ≡ front stop bytes.now }
-    ensures within { result ≤ length bytes.now }
+// The bytes before the first stop, and those behind it, if there is one.
+fn split_at_stop(bytes: &[u8], stop: u8) -> (&[u8], Option<&[u8]>)
+    ensures pieces { pieces stop bytes.now ≡ result.0.now ∷ pieces_left stop result.1 }
+    ensures length { length bytes.now ≡ length result.0.now + bytes_behind result.1 }
 {
-    for (i, b) in bytes.iter().enumerate() {
-        if *b == stop {
-            return i;
-        }
+    match bytes.iter().position(|b| *b == stop) {
+        Some(end) => (&bytes[..end], Some(&bytes[end + 1..])),
+        None => (bytes, None),
     }
-    bytes.len()
 }
 
 impl<'a> Reader<'a> {
@@ -39,36 +37,37 @@ impl<'a> Reader<'a> {
         ensures left { self.new.place + length self.new.rest.now ≡ self.old.place + length self.old.rest.now }
         ensures line { self.new.line ≡ line_after (seen result) self.old.line }
     {
-        let place = self.place;
-        let line = self.line;
-        let rest = self.rest;
-        if rest.is_empty() {
+        let (place, line) = (self.place, self.line);
+        if self.rest.is_empty() {
             return Token::End { place, line };
         }
-        let end = cut(rest, b'\n');
-        let bytes = &rest[0..end];
-        if end == rest.len() {
-            self.rest = &rest[end..];
-            self.place = place + end;
-            return Token::Open(Part { bytes, place, line });
+        let (bytes, behind) = split_at_stop(self.rest, b'\n');
+        let part = Part { bytes, place, line };
+        let end = place + bytes.len();
+        match behind {
+            Some(behind) => {
+                self.rest = behind;
+                self.place = end + 1;
+                self.line = line + 1;
+                Token::Line(part)
+            }
+            None => {
+                self.rest = &[];
+                self.place = end;
+                Token::Open(part)
+            }
         }
-        self.rest = &rest[end + 1..];
-        self.place = place + end + 1;
-        self.line = line + 1;
-        Token::Line(Part { bytes, place, line })
     }
 }
 
 impl<'a> Words<'a> {
     // The words of a line: one more than it has spaces.
     pub(crate) fn of(line: Part<'a>) -> Words<'a>
-        requires { line.place + length line.bytes.now ≤ 32768 }
-        ensures words { words_left result.more result.rest.now ≡ pieces 32 line.entry.bytes.now }
+        ensures words { words_left result.rest ≡ pieces 32 line.entry.bytes.now }
         ensures stands { (result.place ≡ line.entry.place) × (result.line ≡ line.entry.line) }
     {
         Words {
-            rest: line.bytes,
-            more: true,
+            rest: Some(line.bytes),
             place: line.place,
             line: line.line,
         }
@@ -76,27 +75,15 @@ impl<'a> Words<'a> {
 
     // Takes the next word.
     pub fn next_word(&mut self) -> Option<Part<'a>>
-        ensures word { words_left self.old.more self.old.rest.now ≡ words_from result (words_left self.new.more self.new.rest.now) }
+        ensures word { words_left self.old.rest ≡ words_from result (words_left self.new.rest) }
         ensures stands { IfSome result (λ w. (w.place ≡ self.old.place) × (w.line ≡ self.old.line)) }
-        ensures left { self.new.place + length self.new.rest.now ≡ self.old.place + length self.old.rest.now }
+        ensures left { self.new.place + bytes_left self.new.rest ≡ self.old.place + bytes_left self.old.rest }
         ensures line { self.new.line ≡ self.old.line }
     {
-        if !self.more {
-            return None;
-        }
-        let place = self.place;
-        let line = self.line;
-        let rest = self.rest;
-        let end = cut(rest, b' ');
-        let bytes = &rest[0..end];
-        if end == rest.len() {
-            self.more = false;
-            self.rest = &rest[end..];
-            self.place = place + end;
-            return Some(Part { bytes, place, line });
-        }
-        self.rest = &rest[end + 1..];
-        self.place = place + end + 1;
+        let (place, line) = (self.place, self.line);
+        let (bytes, rest) = split_at_stop(self.rest?, b' ');
+        self.rest = rest;
+        self.place = place + bytes.len() + usize::from(rest.is_some());
         Some(Part { bytes, place, line })
     }
 }

@@ -1,11 +1,12 @@
-use Rattle.std.proofs.Common.{true, unwrap_or, sym, ap, ◌∙◌, subst, length-set, ◌≡◌, length, set}
+use Rattle.std.proofs.Common.{ℕ, true, sym, subst}
+use Rattle.capability.specs.declared.right.Right.{Right}
 use Rattle.capability.specs.declared.counter.Counter.{Counter}
-use Rattle.fault.specs.declared.level.Level.TheVariants.{Nothing}
+use Rattle.fault.specs.Levels.{level_named}
 use Rattle.machine.specs.Engines.{engine_of}
 use Rattle.machine.specs.Model.{core_of, plan_of}
 use Rattle.machine.specs.Sound.{Sound}
 use Rattle.machine.specs.State.{EngineState, counted, run}
-use Rattle.machine.proofs.Lending.{lend_passed, sound_lent_at}
+use Rattle.machine.proofs.Lending.{lend_passed, named, sound_lent}
 use Rattle.machine.proofs.Machines.{sound_of}
 use Rattle.machine.proofs.machine.Machine.lend.Goals as goal
 
@@ -17,8 +18,10 @@ invariant_of-self g c =
     let a = c.args in
     let n = c.reading_of-reading.result in
     let x : Counter = record { reading = n; out = true } in
-    let l = lend_passed p d a.counter a.register a.base a.size a.level c.in_ok-lend_check.ensures in
-    let s = sound_lent_at p d a.counter a.register a.base a.size a.level n c.unwrap_or.result (sound_of m) l c.reading_of-reading.ensures (c.unwrap_or.ensures ∙ ap (λ o. unwrap_or o Nothing) c.named.ensures) in
-    let f : Sound p (run (engine_of c.tell.new.self) (counted a.counter x d)) = subst (λ (e : EngineState). Sound p (run e (counted a.counter x d))) (sym c.tell.ensures) s in
-    let counters : length (set m.counters a.counter x) ≡ 17 = length-set m.counters a.counter x ∙ m.counters17 in
-    assumption (counters, f, m)
+    let right : Right = record { base = a.base; size = a.size; level = c.in-Ok.level } in
+    let h = named (level_named a.level) _ c.in-Ok.level c.in-Ok.ensures in
+    let l = lend_passed p d a.counter a.register right a.level h (c.in_ok-lend_check.ensures a.level h) in
+    let s = sound_lent p d a.counter a.register right n (sound_of m) l c.reading_of-reading.ensures in
+    let s = subst (λ (e : EngineState). Sound p (run e (counted a.counter x d))) (sym c.tell.ensures) s in
+    let f : Sound p (run (engine_of c.tell.new.self) (counted c.from.result x d)) = subst (λ (i : ℕ). Sound p (run (engine_of c.tell.new.self) (counted i x d))) (sym c.from.ensures) s in
+    assumption (f, m)

@@ -6,9 +6,8 @@ use Rattle.machine.specs.Model.{core_of, plan_of}
 use Rattle.machine.specs.Rules.{life_check, list_check}
 use Rattle.machine.specs.Sound.{fine}
 use Rattle.machine.proofs.Fines.{fine-made, formed-right}
-use Rattle.machine.proofs.Machines.{refitted, sound_of}
+use Rattle.machine.proofs.Machines.{refitted_took}
 use Rattle.machine.proofs.Passing.{both_passed, demand_passed}
-use Rattle.machine.proofs.Sounds.{sound_took}
 use Rattle.machine.proofs.machine.Machine.make.Goals as goal
 
 pub invariant_of-self : goal.invariant_of-self
@@ -22,5 +21,5 @@ invariant_of-self g c =
     let r = both_passed (life_check p d life) (list_check p d x) q.1 in
     let h = formed-right x (demand_passed d BadSpan (spans x.base x.size) q.0) c.requires.granting in
     let f = ap (fine m.counters) c.made-made.ensures ∙ fine-made p d x life h c.requires.lives r.0 in
-    let f = refitted m _ _ c.tell.ensures (sound_took p d (sound_of m) c.args.a c.made-made.result f) in
+    let f = refitted_took m c.args.a c.made-made.result _ c.tell.ensures f in
     assumption (f, m)

@@ -1,44 +1,27 @@
-use Rattle.std.proofs.Common.{set, refl, ◌∙◌, arith, length-set}
-use Rattle.std.proofs.lemmas.Bool.{eq-eqb}
-use Rattle.plan.specs.Tables.{no_store, on_page}
-use Rattle.plan.proofs.Each.{any_new}
-use Rattle.plan.proofs.Plans.{page_first, page_proper, page_stored, store_stored}
+use Rattle.std.proofs.Common.{◌≡◌, ◌<◌, is_some, true, ap, ◌∙◌, arith}
+use Rattle.std.specs.List.{position}
+use Rattle.std.proofs.lemmas.Grind.{common_steps}
+use Rattle.plan.specs.Chart.{has_bit}
+use Rattle.plan.specs.Tables.{ProperPage, on_page, unplanned}
+use Rattle.plan.specs.declared.records.Page.{Page}
+use Rattle.plan.proofs.Each.{each_set}
+use Rattle.plan.proofs.Plans.{first_kept, found_last}
 use Rattle.plan.proofs.draft.Draft.page.Goals as goal
+use Rattle.plan.proofs.draft.Draft.page.Goals.{then-stores+in_ok-demand-5, else-stores}
 
 pub invariant_of-self-2 : goal.invariant_of-self-2
 invariant_of-self-2 c =
-    let p = c.args.self.now.plan in
-    let i = c.in-Some.i in
-    let n = c.args.page in (
-      (p.pages128, (p.lists64, (p.twelves, (p.owners17, (length-set p.stores i _ ∙ p.stores8, (p.proper, (p.first, (store_stored p.pages p.stores i n p.first p.stored (c.in-Some.ensures.holds no_store), tt)))))))),
-      (c.args.self.now.given17, tt),
-    )
-
-pub invariant_of-self-3 : goal.invariant_of-self-3
-invariant_of-self-3 c =
-    let p = c.args.self.now.plan in
-    let i = c.in-Some.i in
+    let p = c.if-stores.self.plan in
     let n = c.args.page in
-    let s = store_stored p.pages p.stores i n p.first p.stored (c.in-Some.ensures.holds no_store) in
-    let f = any_new (on_page n) p.stores i (record { page = n }) c.in-Some.ensures.within (eq-eqb n n refl) in (
-      (
-        length-set p.pages n _ ∙ p.pages128,
-        (
-          p.lists64,
-          (
-            p.twelves,
-            (
-              p.owners17,
-              (
-                length-set p.stores i _ ∙ p.stores8,
-                (
-                  page_proper p.pages n _ p.proper (omega arith, omega arith, λ e. omega arith),
-                  (page_first p.pages n _ (omega arith) p.first, (page_stored p.pages (set p.stores i _) n _ s (λ e. f), tt)),
-                ),
-              ),
-            ),
-          ),
-        ),
-      ),
-      (c.args.self.now.given17, tt),
+    let ss = p.stores.items in
+    let low : c.args.bits < 32 = grind (arith, common_steps) in
+    let named : c.args.tag < 64 = grind (arith, common_steps) in
+    let some : 0 < c.args.tag = grind (arith, common_steps) in
+    let later : 0 < n = grind (arith, common_steps) in
+    let found : has_bit 16 c.args.bits ≡ true → is_some (position (on_page n) ss) ≡ true = elim c.if-stores.branch [
+      | then-stores+in_ok-demand-5 w ↦ λ h. ap (λ d. is_some (position (on_page n) d.plan.stores.items)) w.self-is ∙ ap (λ s. is_some (position (on_page n) s)) w.push.ensures.items ∙ found_last n c.args.self.now.plan.stores.items
+      | else-stores w ↦ λ h. grind (arith, common_steps, h)
+    ] in (
+      each_set (λ k. ProperPage) unplanned p.pages n _ p.proper (low, named, λ e. some),
+      (first_kept p.pages n _ later p.first, (each_set (λ k (y : Page). has_bit 16 y.bits ≡ true → is_some (position (on_page k) ss) ≡ true) unplanned p.pages n _ p.stored found, tt)),
     )

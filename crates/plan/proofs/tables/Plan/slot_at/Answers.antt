@@ -1,33 +1,17 @@
-use Rattle.std.proofs.Common.{◌/◌, is_some, sym, refl, ap, arith}
+use Rattle.std.proofs.Common.{◌≡◌, ◌/◌, is_some, ap, ◌∙◌, rules}
 use Rattle.plan.specs.Model.{planned}
-use Rattle.plan.specs.Tables.{on_page, slot_found}
-use Rattle.plan.proofs.Slots.{found_any, one_slot}
-use Rattle.std.proofs.lemmas.Bool.{both_ways}
+use Rattle.plan.specs.Tables.{slot_at}
+use Rattle.plan.proofs.Slots.{own_slot, slot_there}
 use Rattle.plan.proofs.tables.Plan.slot_at.Goals as goal
 
-pub overflow_mul-result : goal.overflow_mul-result
-overflow_mul-result c = record { fits = omega (arith, c.in-Some.ensures.within) }
+pub returns-clause-there : goal.returns-clause-there
+returns-clause-there c =
+    let p = planned c.args.self.now in
+    let e : c.map.result ≡ slot_at p c.args.address = search rules in
+    λ h. ap is_some e ∙ slot_there p c.args.address (c.args.self.now.stored (c.args.address / 256) h)
 
-pub overflow_add-result : goal.overflow_add-result
-overflow_add-result c = record { fits = omega (arith, c.in-Some.ensures.within) }
-
-pub returns-in-Some : goal.returns-in-Some
-returns-in-Some c =
-    let a = c.args.address in
-    let e = ap (slot_found a) c.in-Some.ensures.value in
-    record {
-      value = e;
-      there = λ h. refl;
-      own = (omega (arith, c.in-Some.ensures.within), λ b f. one_slot (planned c.args.self.now) a b _ (sym e) f);
-    }
-
-pub returns-in-None : goal.returns-in-None
-returns-in-None c =
-    let p = c.args.self.now in
-    let a = c.args.address in
-    let e = c.in-None.ensures.value in
-    record {
-      value = ap (slot_found a) e;
-      there = λ h. absurd (both_ways _ (ap is_some (sym e)) (found_any (on_page (a / 256)) p.stores 0 (p.stored (a / 256) h)));
-      own = tt;
-    }
+pub returns-clause-own : goal.returns-clause-own
+returns-clause-own c =
+    let p = planned c.args.self.now in
+    let e : c.map.result ≡ slot_at p c.args.address = search rules in
+    own_slot p c.args.address c.map.result (search rules) e

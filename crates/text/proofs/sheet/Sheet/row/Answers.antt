@@ -1,26 +1,21 @@
-use Rattle.std.proofs.Common.{refl}
-use Rattle.text.specs.declared.sections.Section.TheVariants.{Memory, Pages, Entries, Counters, Trace}
-use Rattle.std.proofs.lemmas.Result.{IfOk-weaker}
-use Rattle.text.specs.declared.sections.Stage.TheVariants.{Closed}
-use Rattle.text.proofs.Staying.{refused-row, stays}
+use Rattle.std.proofs.Common.{refl, rules}
+use Rattle.text.specs.declared.job.ReadError.TheVariants.{Refused as Told}
+use Rattle.text.specs.declared.sections.Section.TheVariants.{Memory, Counters, Trace}
+use Rattle.text.specs.declared.sections.Stage.TheVariants.{Closed, Rows}
+use Rattle.text.proofs.Staying.{refused-row}
 use Rattle.text.proofs.sheet.Sheet.row.Goals as goal
 
-pub returns-in-Pages : goal.returns-in-Pages
-returns-in-Pages c =
-    stays c.args.section Pages c.in-Pages.is _ c.requires.1 _ _ _ _ refl c.page_row.ensures.answer c.page_row.ensures.after
+pub returns-in_err-memory_row-in-Memory : goal.returns-in_err-memory_row-in-Memory
+returns-in_err-memory_row-in-Memory c =
+    let err = c.in_err-memory_row-in-Memory in
+    refused-row c.args.section Memory c.in-Memory.is _ (Closed Memory) _ _ _ _ (Told err.field-0.0) c.from_residual.result refl (search rules) (err.ensures.answer, err.ensures.after)
 
-pub returns-in-Entries : goal.returns-in-Entries
-returns-in-Entries c =
-    stays c.args.section Entries c.in-Entries.is _ c.requires.1 _ _ _ _ refl c.entry_row.ensures.answer c.entry_row.ensures.after
+pub returns-in_err-counter_row-in-Counters : goal.returns-in_err-counter_row-in-Counters
+returns-in_err-counter_row-in-Counters c =
+    let err = c.in_err-counter_row-in-Counters in
+    refused-row c.args.section Counters c.in-Counters.is _ (Rows Counters) _ _ _ _ (Told err.field-0.0) c.from_residual-in_err-counter_row-in-Counters.result refl (search rules) (err.ensures.answer, err.ensures.after)
 
-pub returns-in-Counters : goal.returns-in-Counters
-returns-in-Counters c =
-    stays c.args.section Counters c.in-Counters.is _ c.requires.1 _ _ _ _ refl c.counter_row.ensures.answer c.counter_row.ensures.after
-
-pub returns-in-Trace : goal.returns-in-Trace
-returns-in-Trace c =
-    IfOk-weaker c.record_row.result _ _ (λ a p. stays c.args.section Trace c.in-Trace.is _ c.requires.1 _ _ _ a refl p.0 p.1) c.record_row.ensures
-
-pub returns-in-Err : goal.returns-in-Err
-returns-in-Err c =
-    refused-row c.args.section Memory c.in-Memory.is _ (Closed Memory) _ _ _ _ c.in-Err.refusal refl c.in-Err.ensures.answer c.in-Err.ensures.after
+pub returns-in_err-record_row-in-Trace : goal.returns-in_err-record_row-in-Trace
+returns-in_err-record_row-in-Trace c =
+    let err = c.in_err-record_row-in-Trace in
+    refused-row c.args.section Trace c.in-Trace.is _ (Rows Trace) _ _ _ _ err.field-0.0 c.from_residual-in_err-record_row-in-Trace.result refl (search rules) err.ensures

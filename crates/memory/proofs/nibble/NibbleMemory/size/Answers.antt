@@ -1,6 +1,0 @@
-use Rattle.std.proofs.Common.{arith}
-use Rattle.memory.proofs.Halves.{halves-length}
-use Rattle.memory.proofs.nibble.NibbleMemory.size.Goals as goal
-
-pub returns : goal.returns
-returns c = omega (arith, halves-length 16384 c.args.self.now.area.now)

@@ -46,7 +46,7 @@ impl Registers {
     pub fn tell_all(&mut self, event: Event)
         ensures { self.new.held ≡ map (λ r. after r event) self.old.held }
     {
-        for held in self.held.iter_mut() {
+        for held in &mut self.held {
             held.happen(event);
         }
     }

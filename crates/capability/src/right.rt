@@ -4,7 +4,7 @@ ghost use Rattle.capability.specs.Holdings.{covers, span_of, spans};
 use fault::level::Level;
 
 // How many addresses there are.
-const ADDRESSES: usize = 32768;
+pub const ADDRESSES: usize = 32_768;
 
 // The bytes from `base` to `base + size`.
 #[derive(Clone, Copy, PartialEq, Eq, Debug)]

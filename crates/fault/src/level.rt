@@ -1,7 +1,6 @@
 ghost use Rattle.std.specs.Prelude.{◌≡◌};
 ghost use Rattle.fault.specs.Levels.{higher_of, level_of, rank_of};
 
-use std::error::Error;
 use std::fmt;
 
 // What a tag or a capability may do with an address; each level includes those before it.
@@ -32,12 +31,7 @@ impl From<Level> for u8 {
     ghost from_gives = { λ level number. number ≡ rank_of level };
 
     fn from(level: Level) -> u8 {
-        match level {
-            Level::Nothing => 0,
-            Level::Call => 1,
-            Level::Read => 2,
-            Level::Write => 3,
-        }
+        level as u8
     }
 }
 
@@ -67,11 +61,3 @@ impl fmt::Display for Level {
         })
     }
 }
-
-impl fmt::Display for UnknownLevel {
-    fn fmt<W: fmt::Write>(&self, f: &mut fmt::Formatter<W>) -> fmt::Result {
-        write!(f, "no level has the number {}", self.0)
-    }
-}
-
-impl Error for UnknownLevel {}

@@ -20,7 +20,7 @@ pub enum Layer {
 // Every reason to refuse, in the order of the numbers.
 #[derive(Clone, Copy, PartialEq, Eq, Debug)]
 pub enum Refusal {
-    RecordLength,
+    RecordLength = 1,
     UnknownCode,
     FieldRange,
     PageEnd,
@@ -54,35 +54,7 @@ impl From<Refusal> for u8 {
     ghost from_gives = { λ refusal number. number ≡ number_of refusal };
 
     fn from(refusal: Refusal) -> u8 {
-        match refusal {
-            Refusal::RecordLength => 1,
-            Refusal::UnknownCode => 2,
-            Refusal::FieldRange => 3,
-            Refusal::PageEnd => 4,
-            Refusal::AddressRange => 5,
-            Refusal::OutsideMemory => 6,
-            Refusal::Misaligned => 7,
-            Refusal::WrongPageKind => 8,
-            Refusal::MissingBit => 9,
-            Refusal::LevelTooLow => 10,
-            Refusal::NotADoor => 11,
-            Refusal::StackFull => 12,
-            Refusal::StackEmpty => 13,
-            Refusal::BadSpan => 14,
-            Refusal::DeadSource => 15,
-            Refusal::ShortLife => 16,
-            Refusal::NotOwner => 17,
-            Refusal::NotPrivileged => 18,
-            Refusal::CounterSpent => 19,
-            Refusal::CounterOut => 20,
-            Refusal::DraftNumber => 21,
-            Refusal::DraftTag => 22,
-            Refusal::DraftBits => 23,
-            Refusal::DraftRepeat => 24,
-            Refusal::DraftFull => 25,
-            Refusal::MapStorage => 26,
-            Refusal::BadText => 27,
-        }
+        refusal as u8
     }
 }
 

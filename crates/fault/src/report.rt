@@ -1,4 +1,4 @@
-ghost use Rattle.std.specs.Prelude.{◌≡◌};
+ghost use Rattle.std.specs.Prelude.{◌≡◌, if◌then◌else◌, Ok, Err};
 ghost use Rattle.fault.specs.Faults.{access_fault, bare_fault, fault_of, memory_fault, placed_at};
 
 use crate::level::Level;
@@ -68,6 +68,17 @@ impl Fault {
         ensures { result ≡ memory_fault place outside }
     {
         Fault::new(Refusal::OutsideMemory, place, Cause::Memory(outside))
+    }
+
+    // Passes, or refuses with a fault that tells nothing more.
+    pub fn demand(test: bool, refusal: Refusal, place: usize) -> Result<(), Fault>
+        ensures { result ≡ (if test then Ok tt else Err (bare_fault refusal place)) }
+    {
+        if test {
+            Ok(())
+        } else {
+            Err(Fault::bare(refusal, place))
+        }
     }
 
     // The same fault, told at another place.

@@ -6,7 +6,7 @@ use fault::refusal::Refusal;
 // The instructions, in the order of their codes.
 #[derive(Clone, Copy, PartialEq, Eq, Debug)]
 pub enum Op {
-    Set,
+    Set = 1,
     Add,
     Load,
     Store,
@@ -60,24 +60,6 @@ impl From<Op> for u8 {
     ghost from_gives = { λ op code. op_of code ≡ Some op };
 
     fn from(op: Op) -> u8 {
-        match op {
-            Op::Set => 1,
-            Op::Add => 2,
-            Op::Load => 3,
-            Op::Store => 4,
-            Op::Jump => 5,
-            Op::Call => 6,
-            Op::Return => 7,
-            Op::Branch => 8,
-            Op::Make => 9,
-            Op::Cut => 10,
-            Op::Drop => 11,
-            Op::Push => 12,
-            Op::Pop => 13,
-            Op::Keep => 14,
-            Op::Fetch => 15,
-            Op::Revoke => 16,
-            Op::Panel => 17,
-        }
+        op as u8
     }
 }

@@ -18,7 +18,7 @@ fn show<M: Memory>(rt: &HostRuntime, memory: &M) -> anyhow::Result<()> {
             byte => char::from(byte),
         })?;
     }
-    rt.println(text.as_str())?;
+    println!(rt; "{text}")?;
     Ok(())
 }
 
@@ -37,8 +37,11 @@ fn run(rt: &HostRuntime) -> anyhow::Result<()> {
     let mut label = Joint::new(Flat::new(&mut first), Nibble::new(&mut second));
     let size = label.size();
     println!(rt; "label memory of {size} bytes: 16 flat, 12 in halves")?;
-    let answer = store(&mut label, 4, b"ROLL 7: 80 x 40 mm");
-    tell(rt, answer, "stored 18 bytes at 4")?;
+    tell(
+        rt,
+        store(&mut label, 4, b"ROLL 7: 80 x 40 mm"),
+        "stored 18 bytes at 4",
+    )?;
     show(rt, &label)?;
     tell(rt, label.write(28, 33), "stored a byte at 28")?;
     let (flat, halves) = label.into_parts();

@@ -1,11 +1,10 @@
--- The engine and the core that the code's tables stand for. Assumes nothing.
+-- The engine and the core that the code's fields stand for. Assumes nothing.
 use Rattle.std.specs.Prelude.{ℕ, List}
 use Rattle.capability.specs.declared.counter.Counter.{Counter}
 use Rattle.capability.specs.declared.holding.Holding.{Holding}
 use Rattle.machine.specs.State.{Core, EngineState}
 use Rattle.machine.specs.declared.engine.Engine.{Engine}
 
--- the frames and the capability stack are those in use
 abbrev pub engine_of : Engine → EngineState
 engine_of e = record {
   place = e.place;

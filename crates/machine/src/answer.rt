@@ -1,5 +1,5 @@
 // What an accepted call answers: the place after it and a value.
-#[derive(Clone, Copy)]
+#[derive(Clone, Copy, PartialEq, Eq, Debug)]
 pub struct Done {
     pub place: usize,
     pub value: u32,

@@ -17,13 +17,7 @@ pub mod obey;
 pub mod seal;
 pub mod values;
 
-// How many addresses there are.
-pub(crate) const ADDRESSES: usize = 32_768;
-
-// How many addresses a page has.
-pub(crate) const PAGE: usize = 256;
-
-// The last place of a page, counted from its start.
+// The last place of a page, counted from its first address.
 pub(crate) const LAST_PLACE: usize = 252;
 
 // The greatest reading of a counter.
@@ -31,6 +25,8 @@ pub(crate) const LAST_READING: u32 = 999_999;
 
 // A machine over a memory of any make. Slots stand eight to an S page, in the order in which those were
 // planned; counters stand under their numbers, and place 0 is unused.
+// Kept: clauses name a machine's plan and core one after the other; rules are given both and no bytes, which one
+// definition alone touches, and a record of the two would be a third form of the state.
 #[derive(Drop)]
 pub struct Machine<M> {
     pub(crate) engine: Engine,

@@ -1,6 +1,5 @@
 -- Bytes in halves. Assumes nothing.
-use Rattle.std.proofs.Common.{◌≡◌, ℕ, zero, suc, ◌+◌, ◌*◌, ◌/◌, ◌%◌, ◌<◌, min, List, [], ◌∷◌, length, get_or, set, Some, slice_get, refl, ap, ◌∙◌, not-suc-le-zero, arith}
-use Rattle.std.proofs.lemmas.Option.{slice_get-get_or}
+use Rattle.std.proofs.Common.{◌≡◌, ℕ, zero, suc, ◌+◌, ◌*◌, ◌/◌, ◌%◌, ◌<◌, min, List, [], ◌∷◌, length, get_or, set, refl, sym, ap, ◌∙◌, not-suc-le-zero, arith}
 use Rattle.memory.specs.Meaning.{join_halves}
 
 pub halves-length : (n : ℕ) (xs : List ℕ) → length (join_halves n xs) ≡ min n (length xs / 2)
@@ -33,10 +32,10 @@ put (suc n) (x ∷ []) (suc a) l u = refl
 put (suc n) (x ∷ y ∷ ys) zero l u = refl
 put (suc n) (x ∷ y ∷ ys) (suc a) l u = ap (λ r. (x % 16 + 16 * (y % 16)) ∷ r) (put n ys a l u)
 
-pub halves-get : (n : ℕ) (xs : List ℕ) (a : ℕ) → a < length (join_halves n xs) → slice_get (join_halves n xs) a ≡ Some (get_or xs (2 * a) 0 % 16 + 16 * (get_or xs (2 * a + 1) 0 % 16))
+pub halves-get : (n : ℕ) (xs : List ℕ) (a : ℕ) → a < length (join_halves n xs) → get_or xs (2 * a) 0 % 16 + 16 * (get_or xs (2 * a + 1) 0 % 16) ≡ get_or (join_halves n xs) a 0
 halves-get n xs a h =
     let e : 2 * a + 1 ≡ suc (twice a) = omega (arith, twice-is a) in
-    rw (e, ← twice-is a) (slice_get-get_or (join_halves n xs) a 0 h ∙ ap Some (at n xs a h))
+    rw (e, ← twice-is a) (sym (at n xs a h))
 
 pub halves-put : (n : ℕ) (xs : List ℕ) (a v : ℕ) → v < 256 → join_halves n (set (set xs (2 * a) (v % 16)) (2 * a + 1) (v / 16)) ≡ set (join_halves n xs) a v
 halves-put n xs a v h =

@@ -1,12 +1,12 @@
-ghost use Rattle.std.specs.Prelude.{◌≡◌, ℕ, ◌<◌, ◌≤◌, ◌↔◌, List, length, IsSome, slice_get, slice_set};
+ghost use Rattle.std.specs.Prelude.{◌≡◌, ℕ, ◌<◌, ◌≤◌, List, length, slice_index, slice_set};
 ghost use Rattle.memory.specs.Meaning.{read_of, write_of, wrote};
 
-use crate::{Memory, outside};
+use crate::{Memory, check};
 use fault::report::Fault;
 use std::marker::PhantomData;
 
 // How the bytes of an area make the bytes of a memory.
-pub trait Packing {
+pub(crate) trait Packing {
     // The longest list that is made.
     const MOST: usize;
 
@@ -19,14 +19,14 @@ pub trait Packing {
     fn size(area: &[u8]) -> usize
         ensures { result ≡ length (unpacked area.now) };
 
-    // The byte at the address, if there is one.
-    fn get(area: &[u8], address: usize) -> Option<u8>
-        ensures { result ≡ slice_get (unpacked area.now) address };
+    fn get(area: &[u8], address: usize) -> u8
+        requires { address < length (unpacked area.now) }
+        ensures { result ≡ slice_index (unpacked area.now) address };
 
-    // Replaces the byte at the address alone, if there is one.
-    fn put(area: &mut [u8], address: usize, byte: u8) -> Option<()>
-        ensures answer { IsSome result ↔ (address < length (unpacked area.old)) }
-        ensures after { unpacked area.new ≡ slice_set (unpacked area.old) address byte };
+    // Replaces the byte at the address alone.
+    fn put(area: &mut [u8], address: usize, byte: u8)
+        requires { address < length (unpacked area.old) }
+        ensures { unpacked area.new ≡ slice_set (unpacked area.old) address byte };
 }
 
 // A memory in an area of the host.
@@ -74,12 +74,13 @@ impl<'a, P: Packing> Memory for Area<'a, P> {
     }
 
     fn read(&self, address: usize) -> Result<u8, Fault> {
-        let size = self.size();
-        P::get(self.area, address).ok_or_else(|| outside(address, size))
+        check(address, self.size())?;
+        Ok(P::get(self.area, address))
     }
 
     fn write(&mut self, address: usize, byte: u8) -> Result<(), Fault> {
-        let size = self.size();
-        P::put(self.area, address, byte).ok_or_else(|| outside(address, size))
+        check(address, self.size())?;
+        P::put(self.area, address, byte);
+        Ok(())
     }
 }

@@ -1,4 +1,4 @@
-ghost use Rattle.std.specs.Prelude.{◌≡◌, ◌<◌, ◌↔◌, length, take, IsSome, slice_get, slice_set};
+ghost use Rattle.std.specs.Prelude.{◌≡◌, length, take, slice_index, slice_set};
 ghost use Rattle.memory.specs.Meaning.{take_within};
 
 use crate::area::{Area, Packing};
@@ -7,11 +7,11 @@ use crate::area::{Area, Packing};
 pub type Flat<'a> = Area<'a, Whole>;
 
 // Each area byte is a byte.
-#[derive(Drop)]
+#[derive(Clone, Copy, Debug, PartialEq, Eq)]
 pub struct Whole;
 
 impl Packing for Whole {
-    const MOST: usize = 32768;
+    const MOST: usize = 32_768;
 
     ghost MOST = { 32768 };
 
@@ -23,20 +23,11 @@ impl Packing for Whole {
         area.len().min(Self::MOST)
     }
 
-    fn get(area: &[u8], address: usize) -> Option<u8> {
-        if address < Self::size(area) {
-            Some(area[address])
-        } else {
-            None
-        }
+    fn get(area: &[u8], address: usize) -> u8 {
+        area[address]
     }
 
-    fn put(area: &mut [u8], address: usize, byte: u8) -> Option<()> {
-        if address < Self::size(area) {
-            area[address] = byte;
-            Some(())
-        } else {
-            None
-        }
+    fn put(area: &mut [u8], address: usize, byte: u8) {
+        area[address] = byte;
     }
 }

@@ -5,7 +5,8 @@ use crate::{Memory, check};
 use fault::report::Fault;
 
 // The longest list of a joint memory.
-const LONGEST: usize = 32768;
+// Kept: with `Self::MOST` in its place the proofs stay open, for `Memory` has no ghost that ties it.
+const LONGEST: usize = 32_768;
 
 // Two memories of any make end to end, cut at 32,768 bytes.
 #[derive(Drop)]

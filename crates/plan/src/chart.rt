@@ -5,7 +5,7 @@ use fault::level::Level;
 use fault::refusal::Refusal;
 
 // What is asked of a page. A door is an address that is a multiple of 64, where a level of Call is enough to enter.
-#[derive(Clone, Copy)]
+#[derive(Clone, Copy, PartialEq, Eq, Debug)]
 pub enum Question {
     Load,
     Store,
@@ -20,14 +20,7 @@ impl From<Question> for u8 {
     ghost from_gives = { λ question number. number ≡ question_number question };
 
     fn from(question: Question) -> u8 {
-        match question {
-            Question::Load => 0,
-            Question::Store => 1,
-            Question::Fetch => 2,
-            Question::Keep => 3,
-            Question::Door => 4,
-            Question::Elsewhere => 5,
-        }
+        question as u8
     }
 }
 

@@ -10,6 +10,7 @@ pub trait Keyed {
 }
 
 // The first place of a record that is kept under the key.
+// Kept: records are looked up in order and not by a map, since no call of the machine allocates.
 pub fn find<T: Keyed>(records: &[T], key: usize) -> Option<usize>
     ensures value { result ≡ position (λ x. T.under x key) records.now }
     ensures within { IfSome result (λ i. i < length records.now) }

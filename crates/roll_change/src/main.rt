@@ -12,7 +12,7 @@ use plan::draft::Draft;
 use std::io;
 
 // The sensor's cell, on the driver's page.
-const CELL: u32 = 768;
+const CELL: u16 = 768;
 
 // The script runs on page 0 with tag 1; page 3 is the driver's, with tag 2 and bits R and W. Nobody lists anybody.
 fn planned() -> Result<Draft, Fault> {
@@ -28,7 +28,7 @@ fn read_cell() -> [u8; 8] {
         a: 1,
         b: 0,
         c: 0,
-        v: CELL,
+        v: CELL.into(),
     }
     .into()
 }
@@ -46,14 +46,14 @@ fn story(rt: &impl Print, draft: Draft) -> io::Result<()> {
     tell(
         rt,
         "host deposits the sensor's 40",
-        machine.deposit(CELL as usize, 40),
+        machine.deposit(usize::from(CELL), 40),
     )?;
     tell(
         rt,
         "script reads before the loan",
         machine.obey(&read_cell()),
     )?;
-    match machine.lend(1, 0, CELL as usize, 1, 2) {
+    match machine.lend(1, 0, usize::from(CELL), 1, 2) {
         Ok(slip) => {
             let during = machine.obey(&read_cell());
             let back = machine.recall(slip);

@@ -7,7 +7,7 @@ use Rattle.plan.specs.Drafting.{Drafted, draft_after, draft_answer}
 use Rattle.std.specs.Option.{ok_or}
 use Rattle.text.specs.Numbers.{fields_of}
 use Rattle.text.specs.Sections.{width_of}
-use Rattle.text.specs.Sheets.{Task, after_of, answer_of, draft_task, row_of, take_fields, take_row, with_draft}
+use Rattle.text.specs.Sheets.{Takes, Task, after_of, answer_of, draft_task, row_of, take_fields, take_row, with_draft}
 use Rattle.text.specs.Splitting.{pieces}
 use Rattle.text.specs.declared.sections.Section.{Section}
 use Rattle.text.proofs.Contrary.{never}
@@ -33,9 +33,9 @@ left_call : (t : Task) (r : Result Drafted Refusal) → with_draft (draft_after 
 left_call t (Ok d) = refl
 left_call t (Err refusal) = refl
 
-module _ (s : Section) (t : Task) (line : List ℕ) (call : Result Drafted Refusal) (row : draft_task t call ≡ row_of s t line) where
-  pub row_told : (a : Result Unit Fault) (b : Result Unit Refusal) → b ≡ told_of a → a ≡ draft_answer call → b ≡ answer_of (row_of s t line)
-  row_told a b f e = f ∙ ap told_of e ∙ told-call t call ∙ ap answer_of row
-
-  pub row_left : (d : Drafted) → d ≡ draft_after t.draft call → with_draft d t ≡ after_of t (row_of s t line)
-  row_left d e = ap (λ x. with_draft x t) e ∙ left_call t call ∙ ap (after_of t) row
+-- a row that the draft is asked of
+pub row_taken : (s : Section) (t : Task) (line : List ℕ) (call : Result Drafted Refusal) → draft_task t call ≡ row_of s t line → (a : Result Unit Fault) (b : Result Unit Refusal) (d : Drafted) → b ≡ told_of a → a ≡ draft_answer call → d ≡ draft_after t.draft call → Takes t (with_draft d t) b (row_of s t line)
+row_taken s t line call row a b d f e g = record {
+  answer = f ∙ ap told_of e ∙ told-call t call ∙ ap answer_of row;
+  after = ap (λ x. with_draft x t) g ∙ left_call t call ∙ ap (after_of t) row;
+}

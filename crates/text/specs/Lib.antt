@@ -5,5 +5,6 @@ pub mod Reading
 pub mod Sections
 pub mod Sheets
 pub mod Splitting
+pub mod Telling
 pub mod Tokens
 pub mod Writing

@@ -1,5 +1,5 @@
 -- What has been read so far, and what one row adds to it. Assumes nothing.
-use Rattle.std.specs.Prelude.{ℕ, if◌then◌else◌, ◌&&◌, List, [], ◌∷◌, ◌++◌, Some, None, Ok, Err, codes, Option, Result, nat_le, slice_index}
+use Rattle.std.specs.Prelude.{◌≡◌, ℕ, if◌then◌else◌, ◌&&◌, List, [], ◌∷◌, ◌++◌, Some, None, Ok, Err, codes, Option, Result, nat_le, slice_index}
 use Rattle.fault.specs.declared.refusal.Refusal.{Refusal}
 use Rattle.fault.specs.declared.refusal.Refusal.TheVariants.{BadText}
 use Rattle.plan.specs.Drafting.{Drafted, blank, draft_counter, draft_entry, draft_page}
@@ -95,3 +95,8 @@ answer_of (Err refusal) = Err refusal
 abbrev pub after_of : {X : Type 0} → X → Result X Refusal → X
 after_of x (Ok y) = y
 after_of x (Err refusal) = x
+
+-- a step from s to t answers as the rule r says, and leaves what r leaves: s where r refuses
+pub record Takes {X : Type 0} (s t : X) (answered : Result Unit Refusal) (r : Result X Refusal) : Type 0 where
+  pub answer : answered ≡ answer_of r
+  pub after : t ≡ after_of s r

@@ -1,7 +1,8 @@
-ghost use Rattle.std.specs.Prelude.{◌≡◌, ◌≤◌};
+ghost use Rattle.std.specs.Prelude.{◌≡◌, ◌≤◌, Some};
 ghost use Rattle.std.specs.Option.{ok_or};
 ghost use Rattle.fault.specs.declared.refusal.Refusal.TheVariants.{BadText};
 ghost use Rattle.text.specs.Reading.{told_at};
+ghost use Rattle.text.specs.Telling.{shown_by, shown_of};
 ghost use Rattle.text.specs.Sheets.{longest_of, make_named};
 ghost use Rattle.text.specs.declared.job.ReadError.TheVariants.{Memory, Refused as Told};
 
@@ -9,6 +10,8 @@ use fault::refusal::Refusal;
 use instruction::record::Record;
 use plan::draft::Draft;
 use std::alloc::AllocError;
+use std::error::Error;
+use std::fmt;
 
 // A make of memory.
 #[derive(Clone, Copy, Debug, PartialEq, Eq)]
@@ -19,6 +22,7 @@ pub enum Make {
 
 impl Make {
     // The longest memory of this make, in bytes.
+    // Kept: the text does not depend on the memory crate, whose packings have these lengths too.
     pub fn longest(self) -> usize
         ensures { result ≡ longest_of self }
     {
@@ -68,6 +72,30 @@ pub enum ReadError<R> {
     Memory(AllocError),
 }
 
+impl fmt::Display for Refused {
+    ghost output = { λ refused. Some (shown_of refused) };
+
+    fn fmt<W: fmt::Write>(&self, f: &mut fmt::Formatter<W>) -> fmt::Result {
+        let number = u8::from(self.refusal);
+        write!(f, "refused with {number} at line {}", self.line)
+    }
+}
+
+impl Error for Refused {}
+
+impl<R: fmt::Display> fmt::Display for ReadError<R> {
+    ghost output = { shown_by R.output };
+
+    fn fmt<W: fmt::Write>(&self, f: &mut fmt::Formatter<W>) -> fmt::Result {
+        match self {
+            ReadError::Refused(refused) => refused.fmt(f),
+            ReadError::Memory(error) => error.fmt(f),
+        }
+    }
+}
+
+impl<R: Error> Error for ReadError<R> {}
+
 impl From<Refusal> for ReadError<Refusal> {
     ghost from_gives = { λ refusal error. error ≡ Told refusal };
 
@@ -77,10 +105,10 @@ impl From<Refusal> for ReadError<Refusal> {
 }
 
 impl<R> From<AllocError> for ReadError<R> {
-    ghost from_gives = { λ lack error. error ≡ Memory lack };
+    ghost from_gives = { λ error told. told ≡ Memory error };
 
-    fn from(lack: AllocError) -> ReadError<R> {
-        ReadError::Memory(lack)
+    fn from(error: AllocError) -> ReadError<R> {
+        ReadError::Memory(error)
     }
 }
 
@@ -91,7 +119,7 @@ impl ReadError<Refusal> {
     {
         match self {
             ReadError::Refused(why) => ReadError::Refused(Refused { refusal: why, line }),
-            ReadError::Memory(lack) => ReadError::Memory(lack),
+            ReadError::Memory(error) => ReadError::Memory(error),
         }
     }
 }

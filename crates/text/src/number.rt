@@ -5,15 +5,17 @@ ghost use Rattle.text.specs.Tokens.{words_left};
 use crate::lexer::Words;
 
 // The number that a row of digits writes, if it is not too large.
+// Kept: tried as a `try_fold`, whose proof the check does not close and the library has no lemma for; the loop's invariant is one line.
+// The library's `parse` reads a &str, and other spellings too.
 fn digits(word: &[u8]) -> Option<u32>
     ensures { result ≡ number_on 0 word.now }
 {
     let mut n: u32 = 0;
-    for b in word {
-        if !b.is_ascii_digit() {
+    for byte in word {
+        if !byte.is_ascii_digit() {
             return None;
         }
-        n = n.checked_mul(10)?.checked_add(u32::from(*b - b'0'))?;
+        n = n.checked_mul(10)?.checked_add(u32::from(*byte - b'0'))?;
     }
     Some(n)
 }

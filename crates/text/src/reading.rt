@@ -37,19 +37,6 @@ fn read_lines(reader: &mut Reader<'_>, sheet: &mut Sheet) -> Result<(), ReadErro
     }
 }
 
-// Reads a text that may be too long.
-fn read_text(heap: Global, text: &[u8]) -> Result<Job, ReadError<Refused>>
-    ensures { IfAnswered result (λ a. outcome a ≡ read_of text.now) }
-{
-    if text.len() > LONGEST {
-        return Err(bad_text(0));
-    }
-    let mut reader = Reader::new(text);
-    let mut sheet = Sheet::new(heap);
-    read_lines(&mut reader, &mut sheet)?;
-    Ok(sheet.into_job())
-}
-
 // Reads a text into its job, or refuses it at its first wrong line.
 pub fn read(heap: Global, text: &[u8]) -> Result<Job, ReadError<Refused>>
     ensures value { IfAnswered result (λ a. outcome a ≡ read_of text.now) }
@@ -58,7 +45,13 @@ pub fn read(heap: Global, text: &[u8]) -> Result<Job, ReadError<Refused>>
     ensures earliest { Earliest }
     ensures long { Long }
 {
-    read_text(heap, text)
+    if text.len() > LONGEST {
+        return Err(bad_text(0));
+    }
+    let mut reader = Reader::new(text);
+    let mut sheet = Sheet::new(heap);
+    read_lines(&mut reader, &mut sheet)?;
+    Ok(sheet.into_job())
 }
 
 #[cfg(test)]
@@ -72,7 +65,7 @@ mod tests {
         match read(heap, text) {
             Ok(_) => Ok(None),
             Err(ReadError::Refused(refused)) => Ok(Some((refused.refusal, refused.line))),
-            Err(ReadError::Memory(lack)) => Err(lack),
+            Err(ReadError::Memory(error)) => Err(error),
         }
     }
 

@@ -1,7 +1,7 @@
 ghost use Rattle.std.specs.Prelude.{◌≡◌};
 ghost use Rattle.text.specs.Model.{IfAnswered, state_of, task_of};
 ghost use Rattle.text.specs.Reading.{may_end, row_at, start, step_line};
-ghost use Rattle.text.specs.Sheets.{after_of, answer_of};
+ghost use Rattle.text.specs.Sheets.{Takes};
 
 use crate::job::{Job, Make, ReadError};
 use crate::rows::demand;
@@ -51,7 +51,7 @@ impl Sheet {
     // A row of a section.
     fn row(&mut self, section: Section, line: Part<'_>) -> Result<(), ReadError<Refusal>>
         requires { self.old.stage ≡ Stage.Rows section }
-        ensures { IfAnswered result (λ a. (a ≡ answer_of (row_at section (task_of self.old.job) line.entry.bytes.now)) × (state_of self.new ≡ after_of (state_of self.old) (row_at section (task_of self.old.job) line.entry.bytes.now))) }
+        ensures { IfAnswered result (λ a. Takes (state_of self.old) (state_of self.new) a (row_at section (task_of self.old.job) line.entry.bytes.now)) }
     {
         // Kept: each section's row is a method of its own, and a match on the enum names them most plainly.
         match section {
@@ -69,7 +69,7 @@ impl Sheet {
 
     // Takes the next line, without its line feed. A refused line leaves the sheet as it was.
     pub(crate) fn take(&mut self, line: Part<'_>) -> Result<(), ReadError<Refusal>>
-        ensures { IfAnswered result (λ a. (a ≡ answer_of (step_line (state_of self.old) line.entry.bytes.now)) × (state_of self.new ≡ after_of (state_of self.old) (step_line (state_of self.old) line.entry.bytes.now))) }
+        ensures { IfAnswered result (λ a. Takes (state_of self.old) (state_of self.new) a (step_line (state_of self.old) line.entry.bytes.now)) }
     {
         match self.stage {
             Stage::Names(section) => {

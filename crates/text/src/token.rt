@@ -4,7 +4,7 @@ ghost use Rattle.std.specs.Prelude.{◌+◌, ◌≤◌, length};
 pub(crate) const LONGEST: usize = 32_768;
 
 // A stretch of the text: its bytes, where it begins, and the line on which it stands, counted from 1.
-#[derive(Clone, Copy)]
+#[derive(Clone, Copy, Debug, PartialEq, Eq)]
 pub struct Part<'a> {
     pub bytes: &'a [u8],
     pub place: usize,
@@ -13,7 +13,7 @@ pub struct Part<'a> {
 }
 
 // A line without its line feed, a last line that has none, or the end of the text.
-#[derive(Clone, Copy)]
+#[derive(Clone, Copy, Debug, PartialEq, Eq)]
 pub enum Token<'a> {
     Line(Part<'a>),
     Open(Part<'a>),

@@ -1,7 +1,7 @@
-ghost use Rattle.std.specs.Prelude.{◌≡◌, ◌++◌, string_bytes, OnOk};
+ghost use Rattle.std.specs.Prelude.{OnOk};
 ghost use Rattle.fault.specs.Refusals.{number_of};
 ghost use Rattle.transcript.specs.Printed.{answer_row};
-ghost use Rattle.transcript.specs.Printing.{printed_names, printed_refusal};
+ghost use Rattle.transcript.specs.Printing.{Appends, printed_names, printed_refusal};
 
 use fault::report::Fault;
 use machine::answer::Done;
@@ -10,7 +10,7 @@ use text::job::Refused;
 
 // The line above the rows.
 pub(crate) fn push_names(out: &mut String) -> Result<(), AllocError>
-    ensures { OnOk result (string_bytes out.new ≡ string_bytes out.old ++ printed_names) }
+    ensures { OnOk result (Appends out.old out.new printed_names) }
 {
     out.push_str("line answer place value\n")
 }
@@ -21,7 +21,7 @@ pub(crate) fn push_row(
     line: usize,
     said: Result<Done, Fault>,
 ) -> Result<(), AllocError>
-    ensures { OnOk result (string_bytes out.new ≡ string_bytes out.old ++ answer_row line said) }
+    ensures { OnOk result (Appends out.old out.new (answer_row line said)) }
 {
     let (answer, place, value) = match said {
         Ok(done) => (0, done.place, done.value),
@@ -32,7 +32,7 @@ pub(crate) fn push_row(
 
 // The two lines of a refused text.
 pub(crate) fn push_refused(out: &mut String, refused: Refused) -> Result<(), AllocError>
-    ensures { OnOk result (string_bytes out.new ≡ string_bytes out.old ++ printed_refusal (number_of refused.refusal) refused.line) }
+    ensures { OnOk result (Appends out.old out.new (printed_refusal (number_of refused.refusal) refused.line)) }
 {
     let number = u8::from(refused.refusal);
     let line = refused.line;

@@ -1,8 +1,9 @@
-ghost use Rattle.std.specs.Prelude.{◌≡◌, ◌++◌, IfOk, string_bytes, OnOk};
+ghost use Rattle.std.specs.Prelude.{◌≡◌, IfOk, string_bytes, OnOk};
 ghost use Rattle.machine.specs.State.{started};
 ghost use Rattle.plan.specs.Model.{drafted};
 ghost use Rattle.text.specs.Model.{task_of};
 ghost use Rattle.transcript.specs.Printed.{rows_from, start_of, transcript};
+ghost use Rattle.transcript.specs.Printing.{Appends};
 
 use crate::printing::{push_names, push_refused};
 use crate::trace::trace;
@@ -23,7 +24,7 @@ fn run_over<M: Memory + Drop>(
     memory: M,
     records: &[Record],
 ) -> Result<(), AllocError>
-    ensures { OnOk result (string_bytes out.new ≡ string_bytes out.old ++ rows_from (record { plan = (drafted draft).plan; core = started; bytes = M.bytes memory }) 1 records.now) }
+    ensures { OnOk result (Appends out.old out.new (rows_from (record { plan = (drafted draft).plan; core = started; bytes = M.bytes memory }) 1 records.now)) }
 {
     let mut machine = Machine::seal(draft, memory);
     trace(out, &mut machine, records)
@@ -31,7 +32,7 @@ fn run_over<M: Memory + Drop>(
 
 // Runs a job over a memory of zeros.
 fn run_job(heap: Global, out: &mut String, job: Job) -> Result<(), AllocError>
-    ensures { OnOk result (string_bytes out.new ≡ string_bytes out.old ++ rows_from (start_of (task_of job)) 1 job.records.items) }
+    ensures { OnOk result (Appends out.old out.new (rows_from (start_of (task_of job)) 1 job.records.items)) }
 {
     let Job {
         make,
@@ -62,7 +63,7 @@ pub fn run(heap: Global, text: &[u8]) -> Result<String, AllocError>
             run_job(heap, &mut out, job)?;
         }
         Err(ReadError::Refused(refused)) => push_refused(&mut out, refused)?,
-        Err(ReadError::Memory(lack)) => return Err(lack),
+        Err(ReadError::Memory(error)) => return Err(error),
     }
     Ok(out)
 }

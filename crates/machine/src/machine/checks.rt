@@ -4,9 +4,9 @@ ghost use Rattle.machine.specs.Checks.{access_at, access_check, addressed, byte_
 ghost use Rattle.machine.specs.Model.{core_of, plan_of};
 ghost use Rattle.machine.specs.State.{place_of, tag_now};
 
-use super::{ADDRESSES, LAST_READING, Machine};
+use super::{LAST_READING, Machine};
 use capability::holding::reading_of;
-use capability::right::{Right, Span};
+use capability::right::{ADDRESSES, Right, Span};
 use fault::level::Level;
 use fault::refusal::Refusal;
 use fault::report::{Access, Fault};
@@ -22,11 +22,7 @@ impl<M> Machine<M> {
     pub(crate) fn demand(&self, refusal: Refusal, test: bool) -> Result<(), Fault>
         ensures { result ≡ demand (core_of self.now) refusal test }
     {
-        if test {
-            Ok(())
-        } else {
-            Err(self.bare(refusal))
-        }
+        Fault::demand(test, refusal, self.engine.place)
     }
 
     pub(crate) fn addressed(&self, address: usize) -> Result<(), Fault>

@@ -56,5 +56,6 @@ pub(crate) fn displaced(place: usize, v: u32) -> Option<usize>
     requires { place < 32768 }
     ensures { result ≡ target place v }
 {
+    // Kept: `as` of a place, which is below 32,768, since with try_from a branch would stand that never runs.
     usize::try_from(place as i64 + 4 * i64::from(v.cast_signed())).ok()
 }

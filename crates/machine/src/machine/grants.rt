@@ -5,7 +5,7 @@ ghost use Rattle.machine.specs.Actions.{Yields};
 ghost use Rattle.machine.specs.Model.{core_of, model, plan_of};
 ghost use Rattle.machine.specs.Rules.{cut, cut_rule, life_check, list_check, lowest_below, made, make_check, make_rule, part_check, revoke_rule};
 
-use super::{Machine, PAGE};
+use super::Machine;
 use capability::counter::Counter;
 use capability::holding::{Event, Holding, reading_of};
 use capability::right::Right;
@@ -13,6 +13,7 @@ use fault::level::Level;
 use fault::refusal::Refusal;
 use fault::report::Fault;
 use memory::Memory;
+use plan::records::PAGE;
 
 // A part of what a capability grants, with the same life.
 fn cut(right: Right, held: Holding) -> Holding
@@ -116,9 +117,9 @@ impl<M: Memory> Machine<M> {
         ensures { Yields (model M.bytes self.old) (model M.bytes self.new) result (cut_rule (plan_of self.old) (core_of self.old) a right source) }
     {
         let held = self.engine.registers.get(source);
-        let Some(whole) = held.granted(&self.counters) else {
-            return Err(self.bare(Refusal::DeadSource));
-        };
+        let whole = held
+            .granted(&self.counters)
+            .ok_or_else(|| self.bare(Refusal::DeadSource))?;
         self.span_check(right)?;
         self.part_check(right, whole)?;
         self.engine.tell(a, Event::Took(cut(right, held)));

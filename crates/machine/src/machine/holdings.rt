@@ -69,7 +69,7 @@ impl<M: Memory> Machine<M> {
         self.plan
             .slot_at(at)
             .and_then(|slot| self.slots.get(slot).copied())
-            .unwrap_or(Holding::Empty)
+            .unwrap_or_default()
     }
 
     // FETCH

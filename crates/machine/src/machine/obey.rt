@@ -6,7 +6,7 @@ ghost use Rattle.machine.specs.Rules.{has_room, obey_rule, right_of, row, wanted
 ghost use Rattle.machine.specs.State.{value};
 ghost use Rattle.machine.specs.Telling.{Refuses};
 
-use super::{LAST_PLACE, Machine, PAGE};
+use super::{LAST_PLACE, Machine};
 use crate::answer::Done;
 use capability::right::Right;
 use fault::level::Level;
@@ -15,6 +15,7 @@ use fault::report::Fault;
 use instruction::decode::{Decoded, decode};
 use instruction::op::Op;
 use memory::Memory;
+use plan::records::PAGE;
 
 impl<M: Memory> Machine<M> {
     // Obeys one record, which may be any bytes. A refusal leaves everything as it was, and its fault tells the truth.
@@ -41,6 +42,8 @@ impl<M: Memory> Machine<M> {
     }
 
     // The address that a record names: a value register plus a number, without wrapping.
+    // Kept: `as`, in this file: from u32 to usize, between which Rust has no `From`, and of the life or the register of a
+    // v that fits, where with try_from a branch would stand that never runs.
     fn at(&self, b: u8, v: u32) -> usize
         ensures { result ≡ value (core_of self.now) b + v }
     {

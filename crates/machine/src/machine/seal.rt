@@ -18,10 +18,7 @@ impl<M: Memory> Machine<M> {
         Machine {
             engine: Engine::new(),
             slots: [Holding::Empty; 64],
-            counters: [Counter {
-                reading: 0,
-                out: false,
-            }; 17],
+            counters: [Counter::default(); 17],
             panel: 0,
             plan: draft.into_plan(),
             memory,

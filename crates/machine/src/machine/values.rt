@@ -65,6 +65,7 @@ impl<M: Memory> Machine<M> {
         ensures { Yields (model M.bytes self.old) (model M.bytes self.new) result (store_rule (plan_of self.old) (core_of self.old) a at) }
     {
         self.byte_check(Question::Store, at)?;
+        // Kept: `as` of a remainder below 256, since with try_from a branch would stand that never runs.
         let byte = (self.engine.value(a) % 256) as u8;
         self.write_byte(at, byte)?;
         Ok(0)

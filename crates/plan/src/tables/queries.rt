@@ -7,7 +7,7 @@ ghost use Rattle.plan.specs.Tables.{decides, entry_at, for_tag, level_for, level
 use super::Plan;
 use crate::chart::{Question, decide};
 use crate::keyed::find;
-use crate::records::{Entry, Page};
+use crate::records::{Entry, PAGE, Page};
 use fault::level::Level;
 use fault::refusal::Refusal;
 
@@ -23,7 +23,7 @@ impl Plan {
     pub fn page_at(&self, address: usize) -> Page
         ensures { result ≡ page_at (planned self.now) address }
     {
-        self.pages.get(address / 256).copied().unwrap_or_default()
+        self.pages.get(address / PAGE).copied().unwrap_or_default()
     }
 
     // The level that one tag has for another.
@@ -77,6 +77,6 @@ impl Plan {
         ensures there { has_bit 16 (page_at (planned self.now) address).bits ≡ true → is_some result ≡ true }
         ensures own { IfSome result (λ i. (i < 64) × ((b : ℕ) → slot_at (planned self.now) b ≡ Some i → b / 32 ≡ address / 32)) }
     {
-        find(&self.stores, address / 256).map(|i| 8 * i + address % 256 / 32)
+        find(&self.stores, address / PAGE).map(|i| 8 * i + address % PAGE / 32)
     }
 }

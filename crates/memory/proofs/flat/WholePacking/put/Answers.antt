@@ -5,6 +5,6 @@ use Rattle.memory.proofs.flat.WholePacking.put.Goals as goal
 pub bounds-area-address : goal.bounds-area-address
 bounds-area-address c = omega (arith, length-take 32768 c.args.area.now)
 
-pub returns-then-address-size-clause-after : goal.returns-then-address-size-clause-after
-returns-then-address-size-clause-after c =
+pub returns : goal.returns
+returns c =
     take-set-lt 32768 c.args.area.now c.args.address c.args.byte (omega (arith, length-take 32768 c.args.area.now))

@@ -8,12 +8,12 @@ use Rattle.text.proofs.sheet.Sheet.row.Goals as goal
 pub returns-in_err-memory_row-in-Memory : goal.returns-in_err-memory_row-in-Memory
 returns-in_err-memory_row-in-Memory c =
     let err = c.in_err-memory_row-in-Memory in
-    refused-row c.args.section Memory c.in-Memory.is _ (Closed Memory) _ _ _ _ (Told err.field-0.0) c.from_residual.result refl (search rules) (err.ensures.answer, err.ensures.after)
+    refused-row c.args.section Memory c.in-Memory.is _ (Closed Memory) _ _ _ _ (Told err.field-0.0) c.from_residual.result refl (search rules) err.ensures
 
 pub returns-in_err-counter_row-in-Counters : goal.returns-in_err-counter_row-in-Counters
 returns-in_err-counter_row-in-Counters c =
     let err = c.in_err-counter_row-in-Counters in
-    refused-row c.args.section Counters c.in-Counters.is _ (Rows Counters) _ _ _ _ (Told err.field-0.0) c.from_residual-in_err-counter_row-in-Counters.result refl (search rules) (err.ensures.answer, err.ensures.after)
+    refused-row c.args.section Counters c.in-Counters.is _ (Rows Counters) _ _ _ _ (Told err.field-0.0) c.from_residual-in_err-counter_row-in-Counters.result refl (search rules) err.ensures
 
 pub returns-in_err-record_row-in-Trace : goal.returns-in_err-record_row-in-Trace
 returns-in_err-record_row-in-Trace c =

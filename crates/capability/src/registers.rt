@@ -1,4 +1,4 @@
-ghost use Rattle.std.specs.Prelude.{◌≡◌, map, replicate, slice_index_or, slice_set};
+ghost use Rattle.std.specs.Prelude.{◌≡◌, length, map, replicate, slice_index_or, slice_set};
 ghost use Rattle.capability.specs.Holdings.{after, empty, raised};
 
 use crate::counter::Counter;
@@ -13,6 +13,7 @@ pub const COUNT: usize = 8;
 #[derive(Clone, Copy, PartialEq, Eq, Debug)]
 pub struct Registers {
     pub held: [Holding; COUNT],
+    ghost eight: { length held ≡ 8 },
 }
 
 impl Registers {

@@ -1,8 +1,6 @@
 ghost use Rattle.std.specs.Prelude.{◌≡◌};
 ghost use Rattle.fault.specs.Levels.{higher_of, level_of, rank_of};
 
-use std::fmt;
-
 // What a tag or a capability may do with an address; each level includes those before it.
 #[derive(Clone, Copy, PartialEq, Eq, PartialOrd, Ord, Debug, Default)]
 pub enum Level {
@@ -48,16 +46,5 @@ impl TryFrom<u32> for Level {
             3 => Ok(Level::Write),
             _ => Err(UnknownLevel(number)),
         }
-    }
-}
-
-impl fmt::Display for Level {
-    fn fmt<W: fmt::Write>(&self, f: &mut fmt::Formatter<W>) -> fmt::Result {
-        f.write_str(match self {
-            Level::Nothing => "none",
-            Level::Call => "Call",
-            Level::Read => "Read",
-            Level::Write => "Write",
-        })
     }
 }

@@ -1,8 +1,6 @@
 ghost use Rattle.std.specs.Prelude.{◌≡◌};
 ghost use Rattle.fault.specs.Refusals.{layer_of, number_of};
 
-use std::fmt;
-
 // The part of the runtime that a refusal comes from.
 #[derive(Clone, Copy, PartialEq, Eq, Debug)]
 pub enum Layer {
@@ -89,21 +87,5 @@ impl Refusal {
             Refusal::MapStorage => Layer::Map,
             Refusal::BadText => Layer::Text,
         }
-    }
-}
-
-impl fmt::Display for Layer {
-    fn fmt<W: fmt::Write>(&self, f: &mut fmt::Formatter<W>) -> fmt::Result {
-        f.write_str(match self {
-            Layer::Record => "record",
-            Layer::Page => "page",
-            Layer::Memory => "memory",
-            Layer::Right => "right",
-            Layer::Stack => "stack",
-            Layer::Owner => "owner",
-            Layer::Draft => "draft",
-            Layer::Map => "map",
-            Layer::Text => "text",
-        })
     }
 }

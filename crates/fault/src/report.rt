@@ -4,7 +4,6 @@ ghost use Rattle.fault.specs.Faults.{access_fault, bare_fault, fault_of, memory_
 use crate::level::Level;
 use crate::refusal::{Layer, Refusal};
 use std::error::Error;
-use std::fmt;
 
 // What an access asked for: the address, the tag of its page, and the level that was found there.
 #[derive(Clone, Copy, PartialEq, Eq, Debug)]
@@ -86,40 +85,6 @@ impl Fault {
         ensures { result ≡ placed_at place self }
     {
         Fault { place, ..self }
-    }
-}
-
-impl fmt::Display for Cause {
-    fn fmt<W: fmt::Write>(&self, f: &mut fmt::Formatter<W>) -> fmt::Result {
-        match self {
-            Cause::Access(
-                Access {
-                    address,
-                    tag,
-                    level,
-                },
-            ) => write!(f, ", address {address}, tag {tag}, level {level}"),
-            Cause::Memory(Outside { address, size }) => {
-                write!(f, ", address {address}, size {size}")
-            }
-            Cause::Bare => Ok(()),
-        }
-    }
-}
-
-impl fmt::Display for Fault {
-    fn fmt<W: fmt::Write>(&self, f: &mut fmt::Formatter<W>) -> fmt::Result {
-        let Fault {
-            refusal,
-            layer,
-            place,
-            cause,
-        } = self;
-        let number = u8::from(*refusal);
-        write!(
-            f,
-            "refused with {number}, layer {layer}, place {place}{cause}"
-        )
     }
 }
 

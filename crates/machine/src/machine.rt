@@ -1,3 +1,4 @@
+ghost use Rattle.std.specs.Prelude.{◌≡◌, length};
 ghost use Rattle.machine.specs.Engines.{engine_of};
 ghost use Rattle.machine.specs.Sound.{Fine, Grounded, GroundedAll, Lasting, Settled};
 ghost use Rattle.plan.specs.Model.{planned};
@@ -35,6 +36,8 @@ pub struct Machine<M> {
     pub(crate) panel: u32,
     pub(crate) plan: Plan,
     pub(crate) memory: M,
+    ghost slots64: { length slots ≡ 64 },
+    ghost counters17: { length counters ≡ 17 },
     ghost grounded: { Grounded (planned plan) engine.place },
     ghost returns: { GroundedAll (planned plan) (engine_of engine).frames },
     ghost registers_fine: { Fine counters (engine_of engine).registers },

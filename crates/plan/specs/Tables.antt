@@ -1,6 +1,8 @@
 -- What a plan says of pages, tags, counters and slots. Assumes nothing.
-use Rattle.std.specs.Prelude.{◌≡◌, ℕ, ◌+◌, ◌*◌, ◌/◌, ◌%◌, ◌<◌, Bool, true, if◌then◌else◌, List, [], is_some, Some, None, Option, ◌==◌, slice_index, slice_index_or}
-use Rattle.std.specs.List.{position}
+use Rattle.std.specs.Prelude.{◌≡◌, ℕ, ◌+◌, ◌*◌, ◌/◌, ◌%◌, ◌<◌, ◌≤◌, Bool, true, if◌then◌else◌, ◌&&◌, List, [], length, is_some, Some, None, Option, ◌==◌, nat_lt, slice_index, slice_index_or}
+use Rattle.arrayvec.specs.ArrayVec.{ArrayVec}
+use Rattle.std.specs.List.{All, position}
+use Rattle.std.specs.Option.{option_or}
 use Rattle.fault.specs.declared.level.Level.{Level}
 use Rattle.fault.specs.declared.level.Level.TheVariants.{Nothing, Write}
 use Rattle.fault.specs.declared.refusal.Refusal.{Refusal}
@@ -62,8 +64,16 @@ abbrev pub slot_found : ℕ → Option ℕ → Option ℕ
 slot_found a None = None
 slot_found a (Some i) = Some (8 * i + a % 256 / 32)
 
+-- the first of the eight places that no S page has taken; page 0, which is no S page, marks it
+abbrev pub free_place : List StorePage → ℕ → Option ℕ
+free_place ss n = if n == 0 && nat_lt (length ss) 8 then Some (length ss) else None
+
+-- the place of the S page n
+abbrev pub place_in : List StorePage → ℕ → Option ℕ
+place_in ss n = option_or (position (on_page n) ss) (free_place ss n)
+
 abbrev pub slot_at : Planned → ℕ → Option ℕ
-slot_at p a = slot_found a (position (on_page (a / 256)) p.stores)
+slot_at p a = slot_found a (place_in p.stores (a / 256))
 
 -- what every plan keeps: bits and tags in range, a tag on every page with X, page 0, every S page found
 abbrev pub ProperPage : Page → Type 0
@@ -77,3 +87,7 @@ StartsFirst ps = ((slice_index_or ps 0 unplanned).tag ≡ 1) × ((slice_index_or
 
 abbrev pub Stored : List Page → List StorePage → Type 0
 Stored ps ss = (k : ℕ) → has_bit 16 (slice_index_or ps k unplanned).bits ≡ true → is_some (position (on_page k) ss) ≡ true
+
+-- each list has at most twelve entries
+abbrev pub Twelves : List (ArrayVec Entry) → Type 0
+Twelves ls = All (λ l. length l.items ≤ 12) ls

@@ -2,7 +2,7 @@ ghost use Rattle.std.specs.Prelude.{◌≡◌, ℕ, ◌/◌, ◌<◌, true, is_s
 ghost use Rattle.std.specs.List.{position};
 ghost use Rattle.plan.specs.Chart.{has_bit};
 ghost use Rattle.plan.specs.Model.{planned};
-ghost use Rattle.plan.specs.Tables.{decides, entry_at, for_tag, level_for, level_found, owner_of, page_at, slot_at};
+ghost use Rattle.plan.specs.Tables.{decides, entry_at, for_tag, level_for, level_found, owner_of, page_at, place_in, slot_at};
 
 use super::Plan;
 use crate::chart::{Question, decide};
@@ -77,6 +77,16 @@ impl Plan {
         ensures there { has_bit 16 (page_at (planned self.now) address).bits ≡ true → is_some result ≡ true }
         ensures own { IfSome result (λ i. (i < 64) × ((b : ℕ) → slot_at (planned self.now) b ≡ Some i → b / 32 ≡ address / 32)) }
     {
-        find(&self.stores, address / PAGE).map(|i| 8 * i + address % PAGE / 32)
+        self.place_in(address / PAGE)
+            .map(|i| 8 * i + address % PAGE / 32)
+    }
+
+    // The place of an S page among the eight. Page 0, which is no S page, marks the first that none has taken.
+    fn place_in(&self, page: usize) -> Option<usize>
+        ensures value { result ≡ place_in self.now.stores.items page }
+        ensures within { IfSome result (λ i. i < 8) }
+    {
+        let free = page == 0 && !self.stores.is_full();
+        find(&self.stores, page).or(free.then_some(self.stores.len()))
     }
 }

@@ -1,4 +1,4 @@
-use Rattle.std.proofs.Common.{◌+◌, [], ◌∷◌, length, rules}
+use Rattle.std.proofs.Common.{◌+◌, [], ◌∷◌, length, rules, ◌≤◌, arith}
 use Rattle.std.proofs.lemmas.Bool.{le-leb}
 use Rattle.machine.proofs.Ladders.{above, floors, newest_step, rises_on}
 use Rattle.machine.proofs.engine.Engine.enter.Goals as goal
@@ -11,4 +11,5 @@ invariant_of-self c =
     let a = above s.floor (h ∷ []) (floors fs) s.rising in
     let r = rises_on s.floor (h ∷ []) (h ∷ h ∷ []) (search (rules, le-leb)) (floors fs) (s.rising, s.bottom) in
     let q = newest_step fs (record { place = s.place + 4; floor = s.floor }) h h in
-    record { rising = cc; bottom = cc }
+    let shallow : length c.push.new.self.items ≤ 32 = search (rules, arith) in
+    record { values8 = s.values8; shallow = shallow; low = s.low; rising = cc; bottom = cc }

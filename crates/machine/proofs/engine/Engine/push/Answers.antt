@@ -1,4 +1,4 @@
-use Rattle.std.proofs.Common.{[], ◌∷◌, length, rules}
+use Rattle.std.proofs.Common.{[], ◌∷◌, length, rules, ◌≤◌, arith}
 use Rattle.machine.proofs.Ladders.{above, floors, rises_on}
 use Rattle.machine.proofs.engine.Engine.push.Goals as goal
 
@@ -8,4 +8,5 @@ invariant_of-self c =
     let h = length s.stack.items ∷ [] in
     let a = above s.floor h (floors s.frames.items) s.rising in
     let r = rises_on s.floor h (length c.push.new.self.items ∷ []) (search rules) (floors s.frames.items) (s.rising, s.bottom) in
-    assumption r
+    let low : length c.push.new.self.items ≤ 64 = search (rules, arith) in
+    assumption (low, r, s)

@@ -1,4 +1,5 @@
-use Rattle.std.proofs.Common.{ℕ, true, sym, subst}
+use Rattle.std.proofs.Common.{ℕ, true, sym, subst, ◌≡◌, length, set, ◌∙◌}
+use Rattle.std.proofs.lemmas.List.{length-set}
 use Rattle.capability.specs.declared.right.Right.{Right}
 use Rattle.capability.specs.declared.counter.Counter.{Counter}
 use Rattle.fault.specs.Levels.{level_named}
@@ -24,4 +25,5 @@ invariant_of-self g c =
     let s = sound_lent p d a.counter a.register right n (sound_of m) l c.reading_of-reading.ensures in
     let s = subst (λ (e : EngineState). Sound p (run e (counted a.counter x d))) (sym c.tell.ensures) s in
     let f : Sound p (run (engine_of c.tell.new.self) (counted c.from.result x d)) = subst (λ (i : ℕ). Sound p (run (engine_of c.tell.new.self) (counted i x d))) (sym c.from.ensures) s in
-    assumption (f, m)
+    let counters : length (set m.counters c.from.result x) ≡ 17 = length-set m.counters c.from.result x ∙ m.counters17 in
+    assumption (counters, f, m)

@@ -1,4 +1,5 @@
-use Rattle.std.proofs.Common.{◌≡◌, ◌+◌, false, get_or, set, rules, sym, ap, ◌∙◌, arith}
+use Rattle.std.proofs.Common.{◌≡◌, ◌+◌, false, get_or, set, rules, sym, ap, ◌∙◌, arith, length}
+use Rattle.std.proofs.lemmas.List.{length-set}
 use Rattle.capability.specs.Holdings.{fresh, reading_of}
 use Rattle.capability.specs.declared.counter.Counter.{Counter}
 use Rattle.machine.specs.Model.{core_of, plan_of}
@@ -22,7 +23,8 @@ invariant_of-self g c =
     let x : Counter = record { reading = c.args.slip.reading + 1; out = false } in
     let s = ap (λ n. settled (owner_of p k) (record { reading = n + 1; out = false })) (sym e) ∙ settled_recalled (owner_of p k) old (m.settled k) (not-false old.out c.if-not-old.false) in
     let f : Sound p (counted k x (core_of m)) = sound_counted p (core_of m) (sound_of m) k x (omega (arith, e)) s in
-    assumption (f, m)
+    let counters : length (set m.counters k x) ≡ 17 = length-set m.counters k x ∙ m.counters17 in
+    assumption (counters, f, m)
 
 pub returns-clause-dead : goal.returns-clause-dead
 returns-clause-dead g c =

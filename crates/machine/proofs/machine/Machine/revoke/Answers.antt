@@ -1,4 +1,5 @@
-use Rattle.std.proofs.Common.{◌/◌, ◌<◌, get_or, ap, arith}
+use Rattle.std.proofs.Common.{◌/◌, ◌<◌, get_or, ap, arith, ◌≡◌, length, set, ◌∙◌}
+use Rattle.std.proofs.lemmas.List.{length-set}
 use Rattle.capability.specs.Holdings.{fresh, reading_of}
 use Rattle.fault.specs.declared.refusal.Refusal.TheVariants.{CounterSpent, NotOwner}
 use Rattle.machine.specs.Model.{core_of, plan_of}
@@ -27,4 +28,5 @@ invariant_of-self g c =
     let low : old.reading < 999999 = omega (arith, ap (reading_of m.counters) c.from-index.ensures, low) in
     let x = raised_counter old in
     let f : Sound p (counted k x d) = sound_counted p d (sound_of m) k x (omega arith) (settled-raised (owner_of p k) old owned (m.settled k) low) in
-    assumption (f, m)
+    let counters : length (set m.counters k x) ≡ 17 = length-set m.counters k x ∙ m.counters17 in
+    assumption (counters, f, m)

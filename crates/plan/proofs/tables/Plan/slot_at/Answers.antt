@@ -1,4 +1,4 @@
-use Rattle.std.proofs.Common.{◌≡◌, ◌/◌, is_some, ap, ◌∙◌, rules}
+use Rattle.std.proofs.Common.{◌≡◌, ◌/◌, ◌<◌, IfSome, is_some, ap, subst, ◌∙◌, rules}
 use Rattle.plan.specs.Model.{planned}
 use Rattle.plan.specs.Tables.{slot_at}
 use Rattle.plan.proofs.Slots.{own_slot, slot_there}
@@ -14,4 +14,4 @@ pub returns-clause-own : goal.returns-clause-own
 returns-clause-own c =
     let p = planned c.args.self.now in
     let e : c.map.result ≡ slot_at p c.args.address = search rules in
-    own_slot p c.args.address c.map.result (search rules) e
+    own_slot p c.args.address c.map.result (subst (λ o. IfSome o (λ k. k < 8)) c.place_in.ensures.value c.place_in.ensures.within) e

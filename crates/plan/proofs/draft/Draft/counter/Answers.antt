@@ -14,4 +14,5 @@ returns-clause-after c =
     let n = c.args.owner in
     let g = get_or-map is_some p.owners k None in
     let e : draft_counter d k n ≡ Ok (owned k n d) = grind (arith, common_steps, g) in
-    owned_map p.pages p.stores.items _ p.owners k n ∙ left d _ (draft_counter d k n) e
+    let h = owned_map p.pages p.stores.items _ p.owners k n ∙ left d _ (draft_counter d k n) e in
+    grind (arith, common_steps, h)
